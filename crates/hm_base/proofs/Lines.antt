@@ -56,12 +56,12 @@ with_lines_pair source line next h =
     (omega (arith, length-append line (13 ∷ 10 ∷ next)))
 
 -- a line and its CR
-pub with_lines_return : (source : Source) (line behind : List ℕ) → all_pass is_text_byte line ≡ true → ((rest : List ℕ) → behind ≢ 10 ∷ rest) → with_lines (with_bytes (with_bytes source line) (10 ∷ [])) behind ≡ with_lines source (line ++ 13 ∷ behind)
-with_lines_return source line behind h other =
+pub with_lines_return : (source : Source) (line after : List ℕ) → all_pass is_text_byte line ≡ true → ((rest : List ℕ) → after ≢ 10 ∷ rest) → with_lines (with_bytes (with_bytes source line) (10 ∷ [])) after ≡ with_lines source (line ++ 13 ∷ after)
+with_lines_return source line after h other =
     let n = source.end in
     same_source _ _ _ _
-    (simp append_assoc refl ∙ ap (λ r. source.placed ++ r) (sym (lines_line n line (13 ∷ behind) h ∙ ap (λ r. numbered n line ++ r) (lines_return (n + length line) behind other))))
-    (omega (arith, length-append line (13 ∷ behind)))
+    (simp append_assoc refl ∙ ap (λ r. source.placed ++ r) (sym (lines_line n line (13 ∷ after) h ∙ ap (λ r. numbered n line ++ r) (lines_return (n + length line) after other))))
+    (omega (arith, length-append line (13 ∷ after)))
 
 -- the last line, which has no CR
 pub with_lines_last : (source : Source) (line : List ℕ) → all_pass is_text_byte line ≡ true → with_bytes source line ≡ with_lines source line

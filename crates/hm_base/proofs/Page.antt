@@ -33,6 +33,6 @@ source_of_lines b page rest e places =
 pub source_of_own : (page pairs : List ℕ) → pairs ≡ [] → without_mark (numbered 0 page) ≡ numbered 0 page → all_pass is_text_byte page ≡ true → source_from 0 pairs page ≡ source_of page
 source_of_own page pairs e places plain =
     let empty : source_from 0 [] [] ≡ source_at [] 0 = source_from_start 0 [] [] refl refl in
-    let behind : source_from 0 [] page ≡ with_bytes (source_from 0 [] []) page = source_from-append 0 [] [] page (λ k d l. absurd (omega arith)) in
+    let after : source_from 0 [] page ≡ with_bytes (source_from 0 [] []) page = source_from-append 0 [] [] page (λ k d l. absurd (omega arith)) in
     let lines : with_bytes (source_at [] 0) page ≡ with_lines (source_at [] 0) page = with_lines_last (source_at [] 0) page plain in
-    rw e (behind ∙ ap (λ (v : Source). with_bytes v page) empty ∙ lines ∙ source_of_lines false page page refl places)
+    rw e (after ∙ ap (λ (v : Source). with_bytes v page) empty ∙ lines ∙ source_of_lines false page page refl places)

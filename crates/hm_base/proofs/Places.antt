@@ -40,11 +40,11 @@ placed_from-append start i pairs (c ∷ t) u =
     rw next (ap (λ r. placed_at c (place_at start pairs i) ∷ r) (placed_from-append start (i + 1) pairs t u))
 
 -- after every pair the places go up by one
-pub placed_from-behind : (start n i : ℕ) (pairs u : List ℕ) → All (λ j. j < n) pairs → n ≤ i → placed_from start pairs i u ≡ numbered (start + i + length pairs) u
-placed_from-behind start n i pairs [] h l = refl
-placed_from-behind start n i pairs (c ∷ u) h l =
+pub placed_from-after : (start n i : ℕ) (pairs u : List ℕ) → All (λ j. j < n) pairs → n ≤ i → placed_from start pairs i u ≡ numbered (start + i + length pairs) u
+placed_from-after start n i pairs [] h l = refl
+placed_from-after start n i pairs (c ∷ u) h l =
     let next : start + (i + 1) + length pairs ≡ start + i + length pairs + 1 = omega arith in
-    rw (count_all n i pairs h l) (ap (λ r. placed_at c (start + i + length pairs) ∷ r) (placed_from-behind start n (i + 1) pairs u h (omega arith) ∙ ap (λ m. numbered m u) next))
+    rw (count_all n i pairs h l) (ap (λ r. placed_at c (start + i + length pairs) ∷ r) (placed_from-after start n (i + 1) pairs u h (omega arith) ∙ ap (λ m. numbered m u) next))
 
 -- a pair that isn't before the end of a text changes no place in it
 pub placed_from_push : (start i j : ℕ) (pairs t : List ℕ) → i + length t ≤ j → placed_from start (pairs ++ j ∷ []) i t ≡ placed_from start pairs i t
@@ -63,7 +63,7 @@ pub source_from-append : (start : ℕ) (pairs text s : List ℕ) → All (λ j. 
 unfolding source_from
 source_from-append start pairs text s inside =
     let place : start + (0 + length text) + length pairs ≡ start + length text + length pairs = omega arith in
-    same_source _ _ _ _ (placed_from-append start 0 pairs text s ∙ ap (λ r. placed_from start pairs 0 text ++ r) (placed_from-behind start (length text) (0 + length text) pairs s inside (omega arith) ∙ ap (λ n. numbered n s) place))
+    same_source _ _ _ _ (placed_from-append start 0 pairs text s ∙ ap (λ r. placed_from start pairs 0 text ++ r) (placed_from-after start (length text) (0 + length text) pairs s inside (omega arith) ∙ ap (λ n. numbered n s) place))
     (omega (arith, length-append text s))
 
 -- a pair after a text

@@ -36,9 +36,9 @@ front p [] = []
 front p (c ∷ s) = if p c then c ∷ front p s else []
 
 -- what follows that prefix
-abbrev pub behind : (ℕ → Bool) → List ℕ → List ℕ
-behind p [] = []
-behind p (c ∷ s) = if p c then behind p s else c ∷ s
+abbrev pub rest_after : (ℕ → Bool) → List ℕ → List ℕ
+rest_after p [] = []
+rest_after p (c ∷ s) = if p c then rest_after p s else c ∷ s
 
 -- each byte passes
 abbrev pub all_pass : (ℕ → Bool) → List ℕ → Bool
@@ -75,14 +75,14 @@ strip_word (c ∷ p) (d ∷ s) = if c == lower d then strip_word p s else None
 -- what comes before a mark, and what follows it
 pub record Cut : Type 0 where
   pub before : List ℕ
-  pub behind : List ℕ
+  pub after : List ℕ
 
 abbrev pub with_first : ℕ → Option Cut → Option Cut
 with_first c None = None
-with_first c (Some k) = Some (record { before = c ∷ k.before; behind = k.behind })
+with_first c (Some k) = Some (record { before = c ∷ k.before; after = k.after })
 
 abbrev pub or_go_on : Option (List ℕ) → ℕ → Option Cut → Option Cut
-or_go_on (Some rest) c k = Some (record { before = []; behind = rest })
+or_go_on (Some rest) c k = Some (record { before = []; after = rest })
 or_go_on None c k = with_first c k
 
 -- the text cut at the first place of a mark of at least one byte

@@ -22,9 +22,9 @@ placed_from start pairs i [] = []
 placed_from start pairs i (c ∷ s) = record { byte = c; place = place_at start pairs i } ∷ placed_from start pairs (i + 1) s
 
 -- the pairs after the first n bytes, counted from there
-abbrev pub pairs_behind : ℕ → List ℕ → List ℕ
-pairs_behind n [] = []
-pairs_behind n (j ∷ pairs) = if nat_lt j n then pairs_behind n pairs else (j - n) ∷ pairs_behind n pairs
+abbrev pub pairs_after : ℕ → List ℕ → List ℕ
+pairs_after n [] = []
+pairs_after n (j ∷ pairs) = if nat_lt j n then pairs_after n pairs else (j - n) ∷ pairs_after n pairs
 
 unfoldable pub source_from : ℕ → List ℕ → List ℕ → Source
 source_from start pairs text = record { placed = placed_from start pairs 0 text; end = start + length text + length pairs }

@@ -66,13 +66,13 @@ pub data ScriptState : Type 0 where
   double_escaped : ScriptState
 
 -- the state after a mark
-abbrev pub state_behind : ScriptState → Mark → ScriptState
-state_behind unescaped opens_comment = escaped
-state_behind escaped closes_comment = unescaped
-state_behind double_escaped closes_comment = unescaped
-state_behind escaped opens_script = double_escaped
-state_behind double_escaped closes_script = escaped
-state_behind state mark = state
+abbrev pub state_after : ScriptState → Mark → ScriptState
+state_after unescaped opens_comment = escaped
+state_after escaped closes_comment = unescaped
+state_after double_escaped closes_comment = unescaped
+state_after escaped opens_script = double_escaped
+state_after double_escaped closes_script = escaped
+state_after state mark = state
 
 -- whether the script ends at this mark
 abbrev pub ends_script : ScriptState → Mark → Bool
@@ -83,7 +83,7 @@ ends_script state mark = false
 -- the place of the first of these marks at which the script ends, from this state on
 abbrev pub first_end : ScriptState → List Marked → Option ℕ
 first_end state [] = None
-first_end state (k ∷ ks) = if ends_script state k.mark then Some k.place else first_end (state_behind state k.mark) ks
+first_end state (k ∷ ks) = if ends_script state k.mark then Some k.place else first_end (state_after state k.mark) ks
 
 -- Where a script's text ends: the first place of `</script` that doesn't close a script in a comment.
 abbrev pub script_end : List ℕ → Option ℕ

@@ -16,9 +16,9 @@ text : text_of page ≡ 97 ∷ 10 ∷ 98 ∷ 10 ∷ 99 ∷ 10 ∷ 10 ∷ []
 unfolding page
 text = refl
 
-behind_a_pair : place_in (placed_text page) 12 2 ≡ 6
+after_a_pair : place_in (placed_text page) 12 2 ≡ 6
 unfolding page
-behind_a_pair = refl
+after_a_pair = refl
 
 at_the_end : place_in (placed_text page) 12 7 ≡ 12
 unfolding page

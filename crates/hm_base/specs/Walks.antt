@@ -27,18 +27,18 @@ abbrev pub is_same_element : Element → List ℕ → Bool → Bool
 is_same_element e n foreign = bytes_eq e.name n && same_flag e.foreign foreign
 
 -- the open elements after an event, innermost first
-abbrev pub path_behind : List Element → Event → List Element
-path_behind path (doctype legacy) = path
-path_behind path (start n foreign attributes) = record { name = n; foreign = foreign } ∷ path
-path_behind path (text s raw) = path
-path_behind path (comment s) = path
-path_behind [] (end n foreign) = []
-path_behind (e ∷ path) (end n foreign) = path
+abbrev pub path_after_event : List Element → Event → List Element
+path_after_event path (doctype legacy) = path
+path_after_event path (start n foreign attributes) = record { name = n; foreign = foreign } ∷ path
+path_after_event path (text s raw) = path
+path_after_event path (comment s) = path
+path_after_event [] (end n foreign) = []
+path_after_event (e ∷ path) (end n foreign) = path
 
 -- the open elements after a list of events
 abbrev pub path_after : List Element → List Event → List Element
 path_after path [] = path
-path_after path (e ∷ w) = path_after (path_behind path e) w
+path_after path (e ∷ w) = path_after (path_after_event path e) w
 
 -- each end ends the innermost open element
 abbrev pub ends_match : List Element → List Event → Bool

@@ -9,6 +9,6 @@ mod source;
 pub use limits::{
     ATTRIBUTE_LIMIT, CERTIFICATE_LIMIT, DEPTH_LIMIT, OUTPUT_LIMIT, PAGE_LIMIT, TABLE_LIMIT,
 };
-pub use plain::{Format, Memory, Points, SpellRules, TreeOptions, Word, is_space};
+pub use plain::{Format, OutOfMemory, OwnedText, Points, SpellRules, TreeOptions, is_space};
 pub use rules::{Refused, Rule};
 pub use source::{SourceText, TextFault};

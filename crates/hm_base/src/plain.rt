@@ -8,27 +8,27 @@ use std::marker::Model;
 
 /// Memory was refused: the error of each call that fails only for lack of memory.
 #[derive(Clone, Copy, Debug, PartialEq, Eq)]
-pub struct Memory;
+pub struct OutOfMemory;
 
-impl From<AllocError> for Memory {
+impl From<AllocError> for OutOfMemory {
     fn from(_error: AllocError) -> Self {
-        Memory
+        OutOfMemory
     }
 }
 
-impl<T: Drop> From<AllocFailed<T>> for Memory {
+impl<T: Drop> From<AllocFailed<T>> for OutOfMemory {
     fn from(_error: AllocFailed<T>) -> Self {
-        Memory
+        OutOfMemory
     }
 }
 
 /// An owned text. Contracts see it as the list of its bytes.
 #[derive(Debug, Drop)]
-pub struct Word {
+pub struct OwnedText {
     pub text: String,
 }
 
-impl Model for Word {
+impl Model for OwnedText {
     ghost use Rattle.std.specs.Prelude.{ℕ, List, string_bytes};
 
     ghost Value = { List ℕ };
@@ -36,7 +36,7 @@ impl Model for Word {
     ghost view = { λ word. string_bytes word.text };
 }
 
-impl AsStr for Word {
+impl AsStr for OwnedText {
     ghost text = { λ word. word };
 
     fn as_str(&self) -> &str {
@@ -77,11 +77,11 @@ pub struct SpellRules {
 #[derive(Clone, Copy, PartialEq, Eq)]
 pub enum Format {
     /// Every layer.
-    One,
+    Full,
     /// The first, the last, and all others but those with exactly one state that has exactly one edge.
-    Two,
+    Compact,
     /// In the graph without dominated edges: the first, the last, and those in which some state doesn't have exactly one edge.
-    Three,
+    Sparse,
 }
 
 /// Whether `c` is ASCII whitespace: TAB, LF, FF, CR or SPACE.

@@ -123,5 +123,5 @@ impl Rule {
 #[derive(Clone, Copy, Debug, PartialEq, Eq)]
 pub enum Refused {
     Page { rule: Rule, at: u32 },
-    Memory,
+    OutOfMemory,
 }

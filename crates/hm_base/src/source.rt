@@ -2,11 +2,11 @@
 ghost use Rattle.std.specs.Prelude.{◌≡◌, ◌+◌, ◌≤◌, ◌++◌, ℕ, List, [], None, length, map, drop, true, IfOk, OnOk, IfErr, IsCharBoundary};
 ghost use Rattle.hm_base.specs.Bytes.{all_pass};
 ghost use Rattle.hm_base.specs.Faults.{HasText, IsRefusalOf, IsRefusedBy};
-ghost use Rattle.hm_base.specs.Places.{is_nonzero, mark_of, pairs_behind, source_from, start_of, with_bytes, with_lines, with_pair};
+ghost use Rattle.hm_base.specs.Places.{is_nonzero, mark_of, pairs_after, source_from, start_of, with_bytes, with_lines, with_pair};
 ghost use Rattle.hm_base.specs.Source.{byte_of, is_text_byte, numbered, place_in, source_of, text_fault, without_mark};
 
 use crate::limits::OUTPUT_LIMIT;
-use crate::plain::Memory;
+use crate::plain::OutOfMemory;
 use crate::rules::{Refused, Rule};
 use memchr::memchr;
 use std::alloc::Global;
@@ -28,16 +28,16 @@ pub enum TextFault {
     Nul { at: u32 },
     /// Memory was refused.
     #[error("out of memory")]
-    Memory,
+    OutOfMemory,
 }
 
-impl From<Memory> for TextFault {
+impl From<OutOfMemory> for TextFault {
     ghost use Rattle.hm_base.specs.declared.source.TextFault.TheVariants as faults;
 
-    ghost from_gives = { λ _ fault. fault ≡ faults.Memory };
+    ghost from_gives = { λ _ fault. fault ≡ faults.OutOfMemory };
 
-    fn from(_error: Memory) -> Self {
-        TextFault::Memory
+    fn from(_error: OutOfMemory) -> Self {
+        TextFault::OutOfMemory
     }
 }
 
@@ -59,7 +59,7 @@ impl TextFault {
                 rule: Rule::Nul,
                 at,
             },
-            TextFault::Memory => Refused::Memory,
+            TextFault::OutOfMemory => Refused::OutOfMemory,
         }
     }
 }
@@ -92,7 +92,7 @@ impl SourceText {
     /// The text of the bytes of a page (#the-input-byte-stream, #preprocessing-the-input-stream). Places count bytes of the
     /// page as it is.
     ///
-    /// The fault is `TooLong` where there are more bytes than `limit`, else the earlier fault is reported. `Memory`
+    /// The fault is `TooLong` where there are more bytes than `limit`, else the earlier fault is reported. `OutOfMemory`
     /// comes only where the page has a text.
     pub fn read(alloc: Global, bytes: &[u8], limit: u32) -> Result<SourceText, TextFault>
         requires { limit ≤ OUTPUT_LIMIT }
@@ -171,7 +171,7 @@ impl SourceText {
     }
 
     /// Adds what comes next in the page after the text, each of its line ends as LF.
-    pub fn append(&mut self, page: &str) -> Result<(), Memory>
+    pub fn append(&mut self, page: &str) -> Result<(), OutOfMemory>
         requires room { self.old.end + length page.now ≤ OUTPUT_LIMIT }
         requires no_zero { all_pass is_nonzero page.now ≡ true }
         ensures { OnOk result (self.new ≡ with_lines self.old page.now) }
@@ -204,7 +204,7 @@ impl SourceText {
     }
 
     // The text of a page that is UTF-8.
-    fn of_page(alloc: Global, page: &str) -> Result<SourceText, Memory>
+    fn of_page(alloc: Global, page: &str) -> Result<SourceText, OutOfMemory>
         requires short { length page.now ≤ OUTPUT_LIMIT }
         requires sound { text_fault page.now ≡ None }
         ensures { IfOk result (λ text. text ≡ source_of page.now) }
@@ -220,22 +220,22 @@ impl SourceText {
     }
 
     // Adds what is left of a page, each of its line ends as LF.
-    fn push_lines(&mut self, page: &str) -> Result<(), Memory>
+    fn push_lines(&mut self, page: &str) -> Result<(), OutOfMemory>
         requires room { self.old.end + length page.now ≤ OUTPUT_LIMIT }
         requires no_zero { all_pass is_nonzero page.now ≡ true }
         ensures { OnOk result (self.new ≡ with_lines self.old page.now) }
     {
         let mut rest = page;
-        while let Some((line, behind)) = rest.split_once('\r') {
+        while let Some((line, after)) = rest.split_once('\r') {
             self.push_bytes(line)?;
-            match behind.strip_prefix('\n') {
+            match after.strip_prefix('\n') {
                 Some(next) => {
                     self.push_pair()?;
                     rest = next;
                 }
                 None => {
                     self.push_bytes("\n")?;
-                    rest = behind;
+                    rest = after;
                 }
             }
         }
@@ -243,7 +243,7 @@ impl SourceText {
     }
 
     // Adds bytes that stand in the page as they are, or an LF for a CR.
-    fn push_bytes(&mut self, bytes: &str) -> Result<(), Memory>
+    fn push_bytes(&mut self, bytes: &str) -> Result<(), OutOfMemory>
         requires room { self.old.end + length bytes.now ≤ OUTPUT_LIMIT }
         requires plain { all_pass is_text_byte bytes.now ≡ true }
         ensures { OnOk result (self.new ≡ with_bytes self.old bytes.now) }
@@ -253,7 +253,7 @@ impl SourceText {
     }
 
     // Adds the LF of a CR LF.
-    fn push_pair(&mut self) -> Result<(), Memory>
+    fn push_pair(&mut self) -> Result<(), OutOfMemory>
         requires { self.old.end + 2 ≤ OUTPUT_LIMIT }
         ensures { OnOk result (self.new ≡ with_pair self.old) }
     {
@@ -266,7 +266,7 @@ impl SourceText {
 
 // Drops the pairs in the first `n` bytes of a text; the others count from there.
 fn drop_pairs(pairs: &mut Vec<u32>, n: u32)
-    ensures { pairs.new.items ≡ pairs_behind n pairs.old.items }
+    ensures { pairs.new.items ≡ pairs_after n pairs.old.items }
 {
     let mut kept = 0;
     for i in 0..pairs.len() {

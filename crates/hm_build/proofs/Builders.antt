@@ -8,10 +8,10 @@ use Rattle.hm_refs.specs.Names.{Entry}
 use Rattle.hm_token_laws.specs.First.{Mode, ordinary, in_svg, rcdata, raw, script, first}
 use Rattle.hm_construction_laws.specs.Steps.{Construction, first_state}
 use Rattle.hm_construction_laws.specs.Trees.{mode_of}
-use Rattle.hm_feed.specs.Fed.{decided, lasting_fault}
-use Rattle.hm_feed.specs.Pieces.{HasFed, Pieces, fault_so_far, told_at}
-use Rattle.hm_feed.proofs.Feeding.{fault_within, nothing_decided, sound_so_far}
-use Rattle.hm_feed.proofs.Texts.{earlier_none}
+use Rattle.hm_decoder.specs.Fed.{decided, lasting_fault}
+use Rattle.hm_decoder.specs.Pieces.{HasFed, Pieces, fault_so_far, told_at}
+use Rattle.hm_decoder.proofs.Feeding.{fault_within, nothing_decided, sound_so_far}
+use Rattle.hm_decoder.proofs.Texts.{earlier_none}
 use Rattle.hm_lexer.specs.Ready.{ready}
 use Rattle.hm_lexer.specs.Standing.{Standing, stand_at, stands}
 use Rattle.hm_insertion.specs.Building.{first_building}

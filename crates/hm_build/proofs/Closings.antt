@@ -9,10 +9,10 @@ use Rattle.hm_tree.specs.declared.tokens.Lexeme.{Lexeme}
 use Rattle.hm_tree.specs.declared.tokens.Lexeme.TheVariants as lexemes
 use Rattle.hm_tree.specs.declared.tokens.Tag.{Tag}
 use Rattle.hm_tree.specs.declared.tokens.Spanned.{Spanned}
-use Rattle.hm_token_laws.specs.First.{Mode, at_end, behind_bytes, first}
+use Rattle.hm_token_laws.specs.First.{Mode, at_end, after_bytes, first}
 use Rattle.hm_construction_laws.proofs.Closing as staying
 use Rattle.hm_construction_laws.proofs.Closing.{is_end_tag, only_end_tags_close}
-use Rattle.hm_construction_laws.specs.Closing.{is_behind_body, closed_step, closed_from, closed_of_source}
+use Rattle.hm_construction_laws.specs.Closing.{is_after_body, closed_step, closed_from, closed_of_source}
 use Rattle.hm_construction_laws.specs.Steps.{Construction, Stepped, went, stops, step}
 use Rattle.hm_construction_laws.specs.Trees.{mode_of}
 use Rattle.hm_lexer.specs.Reading.{Reading, text_of, next_of, IsTaken}
@@ -34,7 +34,7 @@ skipped t place (suc k) at st (c ∷ s) h =
 
 -- it is closed by a token, which ends at `to`, or after it
 pub goes_on : (t : List Entry) (place : ℕ → ℕ) (at n to : ℕ) (st : Construction) (token : Seen) (s : List ℕ) → at < to → to ≤ at + length s
-    → first t (mode_of st.path) s ≡ behind_bytes n (taken token (drop (to - at) s))
+    → first t (mode_of st.path) s ≡ after_bytes n (taken token (drop (to - at) s))
     → closed_from t place 0 at st s ≡ closed_step place (at + n) (step st token) (λ next. closed_from t place 0 to next (drop (to - at) s))
 goes_on t place at n to st token [] h k e = absurd (none at to h k)
   where
@@ -55,7 +55,7 @@ goes_on t place at n to st token (c ∷ s) h k e =
     more next = ap (λ i. closed_from t place i (at + 1) next s) count ∙ inner (to - at - 1) (omega arith) next
 
     same : (x : Stepped) → closed_step place (at + n) x (λ next. closed_from t place (pred (length (c ∷ s) - length (drop (to - at) (c ∷ s)))) (at + 1) next s) ≡ closed_step place (at + n) x (λ next. closed_from t place 0 to next (drop (to - at) (c ∷ s)))
-    same (went es next) = ap (λ x. cond (is_behind_body next.insertion_mode) (Some (place (at + n))) x) (more next)
+    same (went es next) = ap (λ x. cond (is_after_body next.insertion_mode) (Some (place (at + n))) x) (more next)
     same (stops rule m) = refl
 
 -- nothing is closed where no token is left
@@ -73,12 +73,12 @@ further i j s h = ap (λ x. drop x s) (omega arith) ∙ sym (drop-drop (j - i) i
 
 -- body is closed by the next token, or after it
 pub closed_by_next : (r : Reading) (b : Building) (token : Spanned) (passed : ℕ) → r.at ≤ length (text_of r) → token.from ≡ r.at + passed → token.from < token.to → token.to ≤ length (text_of r)
-    → first r.names (mode_of b.state.path) (drop r.at (text_of r)) ≡ behind_bytes passed (taken (seen (text_of r) token.token) (drop token.to (text_of r)))
+    → first r.names (mode_of b.state.path) (drop r.at (text_of r)) ≡ after_bytes passed (taken (seen (text_of r) token.token) (drop token.to (text_of r)))
     → closed_left r b ≡ closed_step (place_of r.source) token.from (step b.state (seen (text_of r) token.token)) (λ next. closed_from r.names (place_of r.source) 0 token.to next (drop token.to (text_of r)))
 closed_by_next r b token passed before from forward inside e =
     let left : length (drop r.at (text_of r)) ≡ length (text_of r) - r.at = length-drop r.at (text_of r) in
     let rest : drop token.to (text_of r) ≡ drop (token.to - r.at) (drop r.at (text_of r)) = further r.at token.to (text_of r) (omega arith) in
-    goes_on r.names (place_of r.source) r.at passed token.to b.state (seen (text_of r) token.token) (drop r.at (text_of r)) (omega arith) (omega arith) (e ∙ ap (λ x. behind_bytes passed (taken (seen (text_of r) token.token) x)) rest)
+    goes_on r.names (place_of r.source) r.at passed token.to b.state (seen (text_of r) token.token) (drop r.at (text_of r)) (omega arith) (omega arith) (e ∙ ap (λ x. after_bytes passed (taken (seen (text_of r) token.token) x)) rest)
     ∙ ap (λ i. closed_step (place_of r.source) i (step b.state (seen (text_of r) token.token)) (λ next. closed_from r.names (place_of r.source) 0 token.to next (drop (token.to - r.at) (drop r.at (text_of r))))) (sym from)
     ∙ ap (λ x. closed_step (place_of r.source) token.from (step b.state (seen (text_of r) token.token)) (λ next. closed_from r.names (place_of r.source) 0 token.to next x)) (sym rest)
 
@@ -103,7 +103,7 @@ closes_with r b token new after forward inside moved all done = by (step b.state
     by (went es st) q i =
         let is : closed_left r b ≡ first_of (closed_here after r.source token.from) (closed_left at_to after) =
         all ∙ ap (λ x. closed_step (place_of r.source) token.from x (λ next. closed_from r.names (place_of r.source) 0 token.to next (drop token.to (text_of r)))) q
-        ∙ ap (λ z. cond (is_behind_body z.insertion_mode) (Some (place_of r.source token.from)) (closed_from r.names (place_of r.source) 0 token.to z (drop token.to (text_of r)))) (sym i.0) ∙ either (is_behind_body after.state.insertion_mode)
+        ∙ ap (λ z. cond (is_after_body z.insertion_mode) (Some (place_of r.source token.from)) (closed_from r.names (place_of r.source) 0 token.to z (drop token.to (text_of r)))) (sym i.0) ∙ either (is_after_body after.state.insertion_mode)
         in
         subst (λ n. ClosesAt r b token.from n after) (sym moved) (record { inside = there; is = is })
 
@@ -111,17 +111,17 @@ pub token_closes : (r : Reading) (b : Building) (m : Mode) (token : Spanned) (ne
     → IsStepped (step b.state (seen s token.token)) b after → ClosesAt r b token.from new after
 token_closes r b m token new s after p e k t done =
     closes_with r b token new after k.forward k.inside k.moved
-    (closed_by_next r b token k.passed p.inside k.from k.forward k.inside (subst (λ x. first r.names x (drop r.at (text_of r)) ≡ behind_bytes k.passed (taken (seen (text_of r) token.token) (drop token.to (text_of r)))) e k.is))
+    (closed_by_next r b token k.passed p.inside k.from k.forward k.inside (subst (λ x. first r.names x (drop r.at (text_of r)) ≡ after_bytes k.passed (taken (seen (text_of r) token.token) (drop token.to (text_of r)))) e k.is))
     (subst (λ x. IsStepped (step b.state (seen x token.token)) b after) (sym t) done)
 
 -- only an end tag closes body
-pub stays_here : (r : Reading) (b : Building) (token : Spanned) (new : Reading) (s : List ℕ) (after : Building) → is_end_tag (seen s token.token) ≡ false → IsStepped (step b.state (seen s token.token)) b after → ClosesAt r b token.from new after → is_behind_body b.state.insertion_mode ≡ false → StaysOpen r b new after
+pub stays_here : (r : Reading) (b : Building) (token : Spanned) (new : Reading) (s : List ℕ) (after : Building) → is_end_tag (seen s token.token) ≡ false → IsStepped (step b.state (seen s token.token)) b after → ClosesAt r b token.from new after → is_after_body b.state.insertion_mode ≡ false → StaysOpen r b new after
 stays_here r b token new s after other done k before = by (step b.state (seen s token.token)) (only_end_tags_close b.state (seen s token.token) before other) done
   where
     by : (x : Stepped) → staying.StaysOpen x → IsStepped x b after → StaysOpen r b new after
     by (stops rule n) h i = absurd i
     by (went es st) h i =
-        let still : is_behind_body after.state.insertion_mode ≡ false = ap (λ (z : Construction). is_behind_body z.insertion_mode) i.0 ∙ h in
+        let still : is_after_body after.state.insertion_mode ≡ false = ap (λ (z : Construction). is_after_body z.insertion_mode) i.0 ∙ h in
         record { open_still = still; is = k.is ∙ ap (λ x. first_of (cond x (Some (place_of r.source token.from)) None) (closed_left new after)) still }
 
 pub token_turned : (r : Reading) (b : Building) (lexeme : Lexeme) (tag : Tag) (token : Spanned) (new : Reading) (s : List ℕ) (after : Building) → token.token ≡ token_of lexeme tag → IsStepped (step b.state (seen s token.token)) b after → GoesOn r b new after → ClosesAt r b token.from new after → IsTurned (taken_by lexeme token.from) r b new after

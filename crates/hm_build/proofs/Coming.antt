@@ -9,7 +9,7 @@ use Rattle.hm_refs.specs.Names.{Entry}
 use Rattle.hm_refs.specs.Tables.{IsTable}
 use Rattle.hm_tree.specs.Tokens.{Seen, taken, refused}
 use Rattle.hm_tree.specs.declared.tokens.ScanFault.{ScanFault}
-use Rattle.hm_token_laws.specs.First.{Next, at_end, behind_bytes, first, rule_of}
+use Rattle.hm_token_laws.specs.First.{Next, at_end, after_bytes, first, rule_of}
 use Rattle.hm_construction_laws.specs.Steps.{Construction, Stepped, went, stops, step, step_over}
 use Rattle.hm_construction_laws.specs.Trees.{Outcome, built, refused_by, after_events, mode_of, next_step, stepped, tree_from}
 use Rattle.hm_lexer.specs.PartLaws.{GoesOn, StandsOn}
@@ -41,8 +41,8 @@ step_moved p q i j (stops rule n) f g h same = ap (refused_by rule) (h n)
 
 next_moved : (p q : ℕ → ℕ) (i j : ℕ) (st : Construction) (s : List ℕ) (x : Next) (f g : ℕ → Construction → Outcome) → SamePlaces p i q j → ((k : ℕ) (next : Construction) → f k next ≡ g k next) → next_step p i st s x f ≡ next_step q j st s x g
 next_moved p q i j st s at_end f g h same = step_moved p q (i + length s) (j + length s) (step_over st) (λ next. built []) (λ next. built []) (further p q i j (length s) h) (λ next. refl)
-next_moved p q i j st s (behind_bytes n (refused fault)) f g h same = ap (refused_by (rule_of fault)) (h n)
-next_moved p q i j st s (behind_bytes n (taken token rest)) f g h same = step_moved p q (i + n) (j + n) (step st token) (f (pred (length s - length rest))) (g (pred (length s - length rest))) (further p q i j n h) (same (pred (length s - length rest)))
+next_moved p q i j st s (after_bytes n (refused fault)) f g h same = ap (refused_by (rule_of fault)) (h n)
+next_moved p q i j st s (after_bytes n (taken token rest)) f g h same = step_moved p q (i + n) (j + n) (step st token) (f (pred (length s - length rest))) (g (pred (length s - length rest))) (further p q i j n h) (same (pred (length s - length rest)))
 
 pub tree_moved : (t : List Entry) (p q : ℕ → ℕ) (s : List ℕ) (skip i j : ℕ) (st : Construction) → SamePlaces p i q j → tree_from t p skip i st s ≡ tree_from t q skip j st s
 tree_moved t p q [] zero i j st h = step_moved p q i j (step_over st) (λ next. built []) (λ next. built []) h (λ next. refl)
@@ -54,12 +54,12 @@ tree_moved t p q (c ∷ s) zero i j st h =
 
 -- ---- places of a text that goes on
 
-place_behind : (placed : List PlacedByte) (end n k : ℕ) → place_in placed end (n + k) ≡ place_in (drop n placed) end k
-place_behind placed end zero k = ap (place_in placed end) (zero-add k)
-place_behind [] end (suc n) k = refl
-place_behind (a ∷ placed) end (suc n) k =
+place_after : (placed : List PlacedByte) (end n k : ℕ) → place_in placed end (n + k) ≡ place_in (drop n placed) end k
+place_after placed end zero k = ap (place_in placed end) (zero-add k)
+place_after [] end (suc n) k = refl
+place_after (a ∷ placed) end (suc n) k =
     let e : suc n + k ≡ suc (n + k) = omega arith in
-    ap (place_in (a ∷ placed) end) e ∙ place_behind placed end n k
+    ap (place_in (a ∷ placed) end) e ∙ place_after placed end n k
 
 -- a byte that is there keeps its place
 pub place_stays : (placed more : List PlacedByte) (end other n : ℕ) → n < length placed → place_in (placed ++ more) end n ≡ place_in placed other n
@@ -68,8 +68,8 @@ place_stays (a ∷ placed) more end other zero h = refl
 place_stays (a ∷ placed) more end other (suc n) h = place_stays placed more end other n (omega arith)
 
 -- the tree of what is left after n bytes
-pub tree_behind : (t : List Entry) (st : Construction) (placed : List PlacedByte) (end n : ℕ) → tree_from t (place_in placed end) 0 n st (map byte_of (drop n placed)) ≡ rest_tree t st (drop n placed) end
-tree_behind t st placed end n = tree_moved t (place_in placed end) (place_in (drop n placed) end) (map byte_of (drop n placed)) 0 n 0 st (λ k. place_behind placed end n k ∙ ap (place_in (drop n placed) end) (sym (zero-add k)))
+pub tree_after : (t : List Entry) (st : Construction) (placed : List PlacedByte) (end n : ℕ) → tree_from t (place_in placed end) 0 n st (map byte_of (drop n placed)) ≡ rest_tree t st (drop n placed) end
+tree_after t st placed end n = tree_moved t (place_in placed end) (place_in (drop n placed) end) (map byte_of (drop n placed)) 0 n 0 st (λ k. place_after placed end n k ∙ ap (place_in (drop n placed) end) (sym (zero-add k)))
 
 -- ---- coming on
 
@@ -108,12 +108,12 @@ long text = length-map text byte_of
 
 -- the tree, where a part of the text stands next
 part_goes : (t : List Entry) (st : Construction) (text more : List PlacedByte) (end n to : ℕ) (token : Seen) → IsTable t → to ≤ length text → ready t (mode_of st.path) (map byte_of text) ≡ true
-    → part t (mode_of st.path) (map byte_of text) ≡ behind_bytes n (taken token (drop to (map byte_of text)))
+    → part t (mode_of st.path) (map byte_of text) ≡ after_bytes n (taken token (drop to (map byte_of text)))
     → rest_tree t st (text ++ more) end ≡ stepped (place_in (text ++ more) end) n (step st token) (λ next. rest_tree t next (drop to text ++ more) end)
 part_goes t st text more end n to token tab inside r e =
     let law : GoesOn t (place_in (text ++ more) end) 0 st (map byte_of text) (map byte_of more) (part t (mode_of st.path) (map byte_of text)) = parts_build t (place_in (text ++ more) end) 0 st (map byte_of text) (map byte_of more) tab r in
-    let here : GoesOn t (place_in (text ++ more) end) 0 st (map byte_of text) (map byte_of more) (behind_bytes n (taken token (drop to (map byte_of text)))) = subst (GoesOn t (place_in (text ++ more) end) 0 st (map byte_of text) (map byte_of more)) e law in
-    ap (tree_from t (place_in (text ++ more) end) 0 0 st) (map-append byte_of text more) ∙ here ∙ step_moved (place_in (text ++ more) end) (place_in (text ++ more) end) (0 + n) n (step st token) _ _ (λ k. ap (λ i. place_in (text ++ more) end (i + k)) (zero-add n)) behind
+    let here : GoesOn t (place_in (text ++ more) end) 0 st (map byte_of text) (map byte_of more) (after_bytes n (taken token (drop to (map byte_of text)))) = subst (GoesOn t (place_in (text ++ more) end) 0 st (map byte_of text) (map byte_of more)) e law in
+    ap (tree_from t (place_in (text ++ more) end) 0 0 st) (map-append byte_of text more) ∙ here ∙ step_moved (place_in (text ++ more) end) (place_in (text ++ more) end) (0 + n) n (step st token) _ _ (λ k. ap (λ i. place_in (text ++ more) end (i + k)) (zero-add n)) after
   where
     count : 0 + (length (map byte_of text) - length (drop to (map byte_of text))) ≡ to
     count = let a = long text in let b = length-drop to (map byte_of text) in omega arith
@@ -124,11 +124,11 @@ part_goes t st text more end n to token tab inside r e =
     rest : drop to (map byte_of text) ++ map byte_of more ≡ map byte_of (drop to (text ++ more))
     rest = ap (λ l. l ++ map byte_of more) (drop-map byte_of to text) ∙ sym (map-append byte_of (drop to text) more) ∙ ap (map byte_of) (sym cut)
 
-    behind : (next : Construction) → tree_from t (place_in (text ++ more) end) 0 (0 + (length (map byte_of text) - length (drop to (map byte_of text)))) next (drop to (map byte_of text) ++ map byte_of more) ≡ rest_tree t next (drop to text ++ more) end
-    behind next = ap₂ (λ i s. tree_from t (place_in (text ++ more) end) 0 i next s) count rest ∙ tree_behind t next (text ++ more) end to ∙ ap (λ l. rest_tree t next l end) cut
+    after : (next : Construction) → tree_from t (place_in (text ++ more) end) 0 (0 + (length (map byte_of text) - length (drop to (map byte_of text)))) next (drop to (map byte_of text) ++ map byte_of more) ≡ rest_tree t next (drop to text ++ more) end
+    after next = ap₂ (λ i s. tree_from t (place_in (text ++ more) end) 0 i next s) count rest ∙ tree_after t next (text ++ more) end to ∙ ap (λ l. rest_tree t next l end) cut
 
 part_stands : (t : List Entry) (st : Construction) (text : List PlacedByte) (y : List ℕ) (n to : ℕ) (token : Seen) → IsTable t → ready t (mode_of st.path) (map byte_of text) ≡ true
-    → part t (mode_of st.path) (map byte_of text) ≡ behind_bytes n (taken token (drop to (map byte_of text)))
+    → part t (mode_of st.path) (map byte_of text) ≡ after_bytes n (taken token (drop to (map byte_of text)))
     → stands t 0 st (map byte_of text ++ y) ≡ stand_on (step st token) (λ next. stands t 0 next (map byte_of (drop to text) ++ y))
 part_stands t st text y n to token tab r e =
     let law = subst (StandsOn t st (map byte_of text) y) e (ready_stands t st (map byte_of text) y tab r) in
@@ -136,7 +136,7 @@ part_stands t st text y n to token tab r e =
 
 -- a part that is stepped
 pub part_comes : (t : List Entry) (b after : Building) (text : List PlacedByte) (n to : ℕ) (token : Seen) (es : List Event) (next : Construction) → IsTable t → to ≤ length text → ready t (mode_of b.state.path) (map byte_of text) ≡ true
-    → part t (mode_of b.state.path) (map byte_of text) ≡ behind_bytes n (taken token (drop to (map byte_of text))) → step b.state token ≡ went es next → after.state ≡ next → after.walk ≡ grown b.walk es
+    → part t (mode_of b.state.path) (map byte_of text) ≡ after_bytes n (taken token (drop to (map byte_of text))) → step b.state token ≡ went es next → after.state ≡ next → after.walk ≡ grown b.walk es
     → Comes t b text after (drop to text)
 part_comes t b after text n to token es next tab inside r e went_so state walk = record {
   tree = λ more end.
@@ -148,7 +148,7 @@ part_comes t b after text n to token es next tab inside r e went_so state walk =
 
 -- a part that construction refuses, at one of its bytes
 pub part_stops : (t : List Entry) (b : Building) (text : List PlacedByte) (n to : ℕ) (token : Seen) (rule : Rule) (k end : ℕ) → IsTable t → to ≤ length text → n + k < length text → ready t (mode_of b.state.path) (map byte_of text) ≡ true
-    → part t (mode_of b.state.path) (map byte_of text) ≡ behind_bytes n (taken token (drop to (map byte_of text))) → step b.state token ≡ stops rule k
+    → part t (mode_of b.state.path) (map byte_of text) ≡ after_bytes n (taken token (drop to (map byte_of text))) → step b.state token ≡ stops rule k
     → IsStopped t b text rule (place_in text end (n + k))
 part_stops t b text n to token rule k end tab inside there r e stopped = record {
   tree = λ more last.
@@ -159,7 +159,7 @@ part_stops t b text n to token rule k end tab inside there r e stopped = record 
 
 -- a fault of a scan
 pub fault_stops : (t : List Entry) (b : Building) (text : List PlacedByte) (n end : ℕ) (fault : ScanFault) → IsTable t → n < length text → ready t (mode_of b.state.path) (map byte_of text) ≡ true
-    → part t (mode_of b.state.path) (map byte_of text) ≡ behind_bytes n (refused fault) → IsStopped t b text (rule_of fault) (place_in text end n)
+    → part t (mode_of b.state.path) (map byte_of text) ≡ after_bytes n (refused fault) → IsStopped t b text (rule_of fault) (place_in text end n)
 fault_stops t b text n end fault tab there r e = record {
   tree = λ more last.
       let law = subst (GoesOn t (place_in (text ++ more) last) 0 b.state (map byte_of text) (map byte_of more)) e (parts_build t (place_in (text ++ more) last) 0 b.state (map byte_of text) (map byte_of more) tab r) in
@@ -169,5 +169,5 @@ fault_stops t b text n end fault tab there r e = record {
 }
 
 pub stops_on : (t : List Entry) (b c : Building) (text left : List PlacedByte) (answer : Refused) → Comes t b text c left → StopsAs t c left answer → StopsAs t b text answer
-stops_on t b c text left answers.Memory h k = tt
+stops_on t b c text left answers.OutOfMemory h k = tt
 stops_on t b c text left (answers.Page rule place) h k = stopped_on t b c text left rule place h k

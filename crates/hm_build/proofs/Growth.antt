@@ -2,10 +2,10 @@
 use Rattle.std.proofs.Common.{◌≡◌, ℕ, ◌<◌, ◌≤◌, List, [], ◌∷◌, ◌++◌, length, Option, Some, None, refl, sym, ap, ◌∙◌, append_assoc, ◌⊎◌, inl, inr}
 use Rattle.std.proofs.lemmas.Bool.{cases_lt}
 use Rattle.hm_base.specs.Source.{PlacedByte, source_of, text_fault}
-use Rattle.hm_feed.specs.Fed.{decided}
-use Rattle.hm_feed.specs.Pieces.{HasFed, HasPage, Pieces, fault_of_page, told_at}
-use Rattle.hm_feed.proofs.Feeding.{page_over, page_within, sound_so_far}
-use Rattle.hm_feed.proofs.Texts.{decided_texts_last, whole_texts_follow}
+use Rattle.hm_decoder.specs.Fed.{decided}
+use Rattle.hm_decoder.specs.Pieces.{HasFed, HasPage, Pieces, fault_of_page, told_at}
+use Rattle.hm_decoder.proofs.Feeding.{page_over, page_within, sound_so_far}
+use Rattle.hm_decoder.proofs.Texts.{decided_texts_last, whole_texts_follow}
 use Rattle.hm_base.specs.Source.{Refusal}
 
 cancel : (gone a b : List PlacedByte) → gone ++ a ≡ gone ++ b → a ≡ b

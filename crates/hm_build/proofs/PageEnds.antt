@@ -18,7 +18,7 @@ use Rattle.hm_insertion.specs.declared.fault.BuildFault.{BuildFault}
 use Rattle.hm_insertion.specs.declared.fault.BuildFault.TheVariants as faults
 use Rattle.hm_insertion.proofs.Events.{grown_is}
 use Rattle.hm_build.specs.Parsing.{IsParsing, IsRead, IsWithin, left_tree, place_of, read_of, reads, span_of}
-use Rattle.hm_feed.specs.Pieces.{before_text}
+use Rattle.hm_decoder.specs.Pieces.{before_text}
 use Rattle.hm_build.proofs.Turns.{IsText, text_long}
 use Rattle.hm_build.proofs.Room.{first_within, over_fits, over_stops_there, within_further}
 
@@ -33,7 +33,7 @@ end_built r b tree k done = by (step_over b.state) refl done
     by (went es st) e i = k.ends ∙ ap (λ x. after_events b.walk (stepped (place_of r.source) (length (text_of r)) x (λ next. built []))) e ∙ ap built (sym (grown_is b.walk es) ∙ sym i)
 
 pub end_inside : (b : Building) (fault : BuildFault) (n : ℕ) → IsRefused (step_over b.state) fault → n + span_of fault ≤ n
-end_inside b faults.Memory n f = omega arith
+end_inside b faults.OutOfMemory n f = omega arith
 end_inside b (faults.Rule rule k) n f = let z : k ≡ 0 = over_stops_there b.state rule k f in omega arith
 
 -- what is left of a text is read from its first byte on

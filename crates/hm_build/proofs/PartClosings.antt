@@ -8,15 +8,15 @@ use Rattle.hm_refs.specs.Tables.{IsTable}
 use Rattle.hm_lexer.specs.Texts.{begins_markup, ends_plain, plain_front, read_text, reference_in}
 use Rattle.hm_tree.specs.Tokens.{Seen, seen, slice, taken}
 use Rattle.hm_tree.specs.declared.tokens.Spanned.{Spanned}
-use Rattle.hm_token_laws.specs.First.{Mode, behind_bytes, behind_empty_tags, first, next_here, read_here}
+use Rattle.hm_token_laws.specs.First.{Mode, after_bytes, after_empty_tags, first, next_here, read_here}
 use Rattle.hm_token_laws.specs.Laws.{SoundNames, reads_markup}
 use Rattle.hm_token_laws.proofs.Bools.{or_parts, none_there}
 use Rattle.hm_token_laws.proofs.TextPieces.{names_of_table}
 use Rattle.hm_construction_laws.proofs.Closing.{StaysOpen, bytes_open}
 use Rattle.hm_construction_laws.proofs.Modes.{is_mode}
 use Rattle.hm_construction_laws.proofs.Rests.{shorter, rest_is}
-use Rattle.hm_construction_laws.specs.Closing.{is_behind_body, closed_from, closed_next, closed_step}
-use Rattle.hm_construction_laws.specs.Steps.{Construction, Stepped, went, stops, behind_events, step, step_byte, step_bytes, then_step}
+use Rattle.hm_construction_laws.specs.Closing.{is_after_body, closed_from, closed_next, closed_step}
+use Rattle.hm_construction_laws.specs.Steps.{Construction, Stepped, went, stops, stepped_after_events, step, step_byte, step_bytes, then_step}
 use Rattle.hm_construction_laws.specs.Steps as steps
 use Rattle.hm_construction_laws.specs.Trees.{mode_of}
 use Rattle.hm_lexer.specs.Parts.{IsPart, left_of}
@@ -40,14 +40,14 @@ open_closed : (place : ℕ → ℕ) (at : ℕ) (o : Stepped) (more : Constructio
 open_closed place at (went es st) more h = ap (λ b. cond b (Some (place at)) (more st)) h
 open_closed place at (stops rule n) more h = refl
 
-later : (es : List Event) (n : ℕ) (o : Stepped) (more : Construction → Option ℕ) → open_step (behind_events es (steps.behind_bytes n o)) more ≡ open_step o more
+later : (es : List Event) (n : ℕ) (o : Stepped) (more : Construction → Option ℕ) → open_step (stepped_after_events es (steps.after_bytes n o)) more ≡ open_step o more
 later es n (went fs st) more = refl
 later es n (stops rule m) more = refl
 
-byte_open : (c : ℕ) (st : Construction) → is_behind_body st.insertion_mode ≡ false → StaysOpen (step_byte c st)
+byte_open : (c : ℕ) (st : Construction) → is_after_body st.insertion_mode ≡ false → StaysOpen (step_byte c st)
 byte_open c st h = by (step_byte c st) (bytes_open (c ∷ []) st h)
   where
-    by : (o : Stepped) → StaysOpen (then_step o (λ next. steps.behind_bytes 1 (step_bytes [] next))) → StaysOpen o
+    by : (o : Stepped) → StaysOpen (then_step o (λ next. steps.after_bytes 1 (step_bytes [] next))) → StaysOpen o
     by (went es next) k = k
     by (stops rule n) k = tt
 
@@ -64,10 +64,10 @@ plain_here t foreign c s h =
     rw two.0 text
 
 plain_token : (t : List Entry) (mode : Mode) (c : ℕ) (s : List ℕ) → reads_markup mode ≡ true → ends_plain t false c s ≡ false
-    → first t mode (c ∷ s) ≡ behind_bytes 0 (taken (slice (c ∷ plain_front t false s)) (drop (length (plain_front t false s)) s))
+    → first t mode (c ∷ s) ≡ after_bytes 0 (taken (slice (c ∷ plain_front t false s)) (drop (length (plain_front t false s)) s))
 plain_token t mode c s m h =
     let two = or_parts (begins_markup (c ∷ s)) (is_some (reference_in t c s)) h in
-    first_here t mode (c ∷ s) m ∙ ap (next_here t (is_foreign mode)) (no_empty_tag (c ∷ s) two.0) ∙ ap (behind_bytes 0) (plain_here t (is_foreign mode) c s h)
+    first_here t mode (c ∷ s) m ∙ ap (next_here t (is_foreign mode)) (no_empty_tag (c ∷ s) two.0) ∙ ap (after_bytes 0) (plain_here t (is_foreign mode) c s h)
 
 front_short : (t : List Entry) (s : List ℕ) → length (plain_front t false s) ≤ length s
 front_short t [] = omega arith
@@ -77,7 +77,7 @@ front_short t (c ∷ s) = by (ends_plain t false c s) (front_short t s)
     by true h = omega arith
     by false h = omega arith
 
-text_token : (t : List Entry) (place : ℕ → ℕ) (at : ℕ) (st : Construction) (c : ℕ) (s : List ℕ) → reads_markup (mode_of st.path) ≡ true → is_behind_body st.insertion_mode ≡ false → ends_plain t false c s ≡ false
+text_token : (t : List Entry) (place : ℕ → ℕ) (at : ℕ) (st : Construction) (c : ℕ) (s : List ℕ) → reads_markup (mode_of st.path) ≡ true → is_after_body st.insertion_mode ≡ false → ends_plain t false c s ≡ false
     → closed_from t place 0 at st (c ∷ s) ≡ open_step (step_bytes (c ∷ plain_front t false s) st) (λ next. closed_from t place (length (plain_front t false s)) (at + 1) next s)
 text_token t place at st c s m o h =
     let f : List ℕ = plain_front t false s in
@@ -92,11 +92,11 @@ text_token t place at st c s m o h =
     minus n k r e h = let one : suc n - r ≡ suc k = omega arith in ap pred one
 
 -- a byte of ordinary text that stands for itself is stepped, and the text goes on after it
-byte_closes : (t : List Entry) (place : ℕ → ℕ) (at : ℕ) (st : Construction) (c : ℕ) (s : List ℕ) → reads_markup (mode_of st.path) ≡ true → is_behind_body st.insertion_mode ≡ false → ends_plain t false c s ≡ false
+byte_closes : (t : List Entry) (place : ℕ → ℕ) (at : ℕ) (st : Construction) (c : ℕ) (s : List ℕ) → reads_markup (mode_of st.path) ≡ true → is_after_body st.insertion_mode ≡ false → ends_plain t false c s ≡ false
     → closed_from t place 0 at st (c ∷ s) ≡ open_step (step_byte c st) (λ next. closed_from t place 0 (at + 1) next s)
 byte_closes t place at st c s m o h = text_token t place at st c s m o h ∙ by (step_byte c st) (byte_on c st m) (byte_open c st o)
   where
-    on : (next : Construction) (s : List ℕ) → reads_markup (mode_of next.path) ≡ true → is_behind_body next.insertion_mode ≡ false → open_step (step_bytes (plain_front t false s) next) (λ z. closed_from t place (length (plain_front t false s)) (at + 1) z s) ≡ closed_from t place 0 (at + 1) next s
+    on : (next : Construction) (s : List ℕ) → reads_markup (mode_of next.path) ≡ true → is_after_body next.insertion_mode ≡ false → open_step (step_bytes (plain_front t false s) next) (λ z. closed_from t place (length (plain_front t false s)) (at + 1) z s) ≡ closed_from t place 0 (at + 1) next s
     on next [] m o = refl
     on next (d ∷ s) m o = choose (ends_plain t false d s) refl
       where
@@ -104,20 +104,20 @@ byte_closes t place at st c s m o h = text_token t place at st c s m o h ∙ by 
         choose true e = refl
         choose false e = sym (text_token t place (at + 1) next d s m o e)
 
-    by : (x : Stepped) → MarkupOn x → StaysOpen x → open_step (then_step x (λ next. steps.behind_bytes 1 (step_bytes (plain_front t false s) next))) (λ next. closed_from t place (length (plain_front t false s)) (at + 1) next s)
+    by : (x : Stepped) → MarkupOn x → StaysOpen x → open_step (then_step x (λ next. steps.after_bytes 1 (step_bytes (plain_front t false s) next))) (λ next. closed_from t place (length (plain_front t false s)) (at + 1) next s)
         ≡ open_step x (λ next. closed_from t place 0 (at + 1) next s)
     by (went es next) k q = later es 1 (step_bytes (plain_front t false s) next) (λ z. closed_from t place (length (plain_front t false s)) (at + 1) z s) ∙ on next s k q
     by (stops rule n) k q = refl
 
 -- so is ordinary text up to any place where it goes on
-text_closes : (t : List Entry) (place : ℕ → ℕ) (at : ℕ) (st : Construction) (c : ℕ) (f r : List ℕ) → reads_markup (mode_of st.path) ≡ true → is_behind_body st.insertion_mode ≡ false → ArePlain t (c ∷ f) r
+text_closes : (t : List Entry) (place : ℕ → ℕ) (at : ℕ) (st : Construction) (c : ℕ) (f r : List ℕ) → reads_markup (mode_of st.path) ≡ true → is_after_body st.insertion_mode ≡ false → ArePlain t (c ∷ f) r
     → closed_from t place 0 at st (c ∷ (f ++ r)) ≡ open_step (step_bytes (c ∷ f) st) (λ next. closed_from t place 0 (at + suc (length f)) next r)
 text_closes t place at st c [] r m o h = byte_closes t place at st c r m o h.0 ∙ by (step_byte c st)
   where
     here : at + 1 ≡ at + suc (length {A = ℕ} [])
     here = omega arith
 
-    by : (x : Stepped) → open_step x (λ next. closed_from t place 0 (at + 1) next r) ≡ open_step (then_step x (λ next. steps.behind_bytes 1 (step_bytes [] next))) (λ next. closed_from t place 0 (at + suc (length {A = ℕ} [])) next r)
+    by : (x : Stepped) → open_step x (λ next. closed_from t place 0 (at + 1) next r) ≡ open_step (then_step x (λ next. steps.after_bytes 1 (step_bytes [] next))) (λ next. closed_from t place 0 (at + suc (length {A = ℕ} [])) next r)
     by (went es next) = ap (λ i. closed_from t place 0 i next r) here
     by (stops rule n) = refl
 text_closes t place at st c (d ∷ f) r m o h =
@@ -127,8 +127,8 @@ text_closes t place at st c (d ∷ f) r m o h =
     far = omega arith
 
     by : (x : Stepped) → MarkupOn x → StaysOpen x
-        → ((next : Construction) → reads_markup (mode_of next.path) ≡ true → is_behind_body next.insertion_mode ≡ false → closed_from t place 0 (at + 1) next (d ∷ (f ++ r)) ≡ open_step (step_bytes (d ∷ f) next) (λ n. closed_from t place 0 (at + 1 + suc (length f)) n r))
-        → open_step x (λ next. closed_from t place 0 (at + 1) next (d ∷ (f ++ r))) ≡ open_step (then_step x (λ next. steps.behind_bytes 1 (step_bytes (d ∷ f) next))) (λ next. closed_from t place 0 (at + suc (suc (length f))) next r)
+        → ((next : Construction) → reads_markup (mode_of next.path) ≡ true → is_after_body next.insertion_mode ≡ false → closed_from t place 0 (at + 1) next (d ∷ (f ++ r)) ≡ open_step (step_bytes (d ∷ f) next) (λ n. closed_from t place 0 (at + 1 + suc (length f)) n r))
+        → open_step x (λ next. closed_from t place 0 (at + 1) next (d ∷ (f ++ r))) ≡ open_step (then_step x (λ next. steps.after_bytes 1 (step_bytes (d ∷ f) next))) (λ next. closed_from t place 0 (at + suc (suc (length f))) next r)
     by (went es next) k q more =
         more next k q ∙ ap (λ i. open_step (step_bytes (d ∷ f) next) (λ n. closed_from t place 0 i n r)) far ∙ sym (later es 1 (step_bytes (d ∷ f) next) (λ n. closed_from t place 0 (at + suc (suc (length f))) n r))
     by (stops rule n) k q more = refl
@@ -136,10 +136,10 @@ text_closes t place at st c (d ∷ f) r m o h =
 -- ---- `</>` is passed over
 
 same_closed : (place : ℕ → ℕ) (at : ℕ) (o : Stepped) (f g : Construction → Option ℕ) → ((st : Construction) → f st ≡ g st) → closed_step place at o f ≡ closed_step place at o g
-same_closed place at (went es st) f g same = ap (λ x. cond (is_behind_body st.insertion_mode) (Some (place at)) x) (same st)
+same_closed place at (went es st) f g same = ap (λ x. cond (is_after_body st.insertion_mode) (Some (place at)) x) (same st)
 same_closed place at (stops rule n) f g same = refl
 
-token_on : (t : List Entry) (place : ℕ → ℕ) (at : ℕ) (st : Construction) (s : List ℕ) (n : ℕ) (token : Seen) (rest : List ℕ) → SoundNames t → first t (mode_of st.path) s ≡ behind_bytes n (taken token rest)
+token_on : (t : List Entry) (place : ℕ → ℕ) (at : ℕ) (st : Construction) (s : List ℕ) (n : ℕ) (token : Seen) (rest : List ℕ) → SoundNames t → first t (mode_of st.path) s ≡ after_bytes n (taken token rest)
     → closed_from t place 0 at st s ≡ closed_step place (at + n) (step st token) (λ next. closed_from t place 0 (at + (length s - length rest)) next rest)
 token_on t place at st [] n token rest names h = let less = shorter t (mode_of st.path) [] n token rest names (is_mode st.path) h in absurd (omega arith)
 token_on t place at st (c ∷ s) n token rest names h =
@@ -157,16 +157,16 @@ token_on t place at st (c ∷ s) n token rest names h =
     pred_suc zero h = absurd (omega arith)
     pred_suc (suc n) h = omega arith
 
-skips_tags : (t : List Entry) (place : ℕ → ℕ) (at n : ℕ) (st : Construction) (s : List ℕ) (c : ℕ) (r : List ℕ) → SoundNames t → reads_markup (mode_of st.path) ≡ true → (behind_empty_tags s).rest ≡ c ∷ r → n ≡ (behind_empty_tags s).count → ends_plain t false c r ≡ false
+skips_tags : (t : List Entry) (place : ℕ → ℕ) (at n : ℕ) (st : Construction) (s : List ℕ) (c : ℕ) (r : List ℕ) → SoundNames t → reads_markup (mode_of st.path) ≡ true → (after_empty_tags s).rest ≡ c ∷ r → n ≡ (after_empty_tags s).count → ends_plain t false c r ≡ false
     → closed_from t place 0 at st s ≡ closed_from t place 0 (at + n) st (c ∷ r)
-skips_tags t place at n st s c r names m behind count h =
+skips_tags t place at n st s c r names m following count h =
     let mode : Mode = mode_of st.path in
     let f : List ℕ = plain_front t false r in
     let rest : List ℕ = drop (length f) r in
     let token : Seen = slice (c ∷ f) in
-    let whole_is : first t mode s ≡ behind_bytes n (taken token rest) =
-    first_here t mode s m ∙ ap (λ l. next_here t (is_foreign mode) (record { count = (behind_empty_tags s).count; rest = l })) behind ∙ ap₂ behind_bytes (sym count) (plain_here t (is_foreign mode) c r h) in
-    let size : length s ≡ n + length (c ∷ r) = tags_counted s ∙ ap₂ (λ i (l : List ℕ). i + length l) (sym count) behind in
+    let whole_is : first t mode s ≡ after_bytes n (taken token rest) =
+    first_here t mode s m ∙ ap (λ l. next_here t (is_foreign mode) (record { count = (after_empty_tags s).count; rest = l })) following ∙ ap₂ after_bytes (sym count) (plain_here t (is_foreign mode) c r h) in
+    let size : length s ≡ n + length (c ∷ r) = tags_counted s ∙ ap₂ (λ i (l : List ℕ). i + length l) (sym count) following in
     let short : length rest ≡ length r - length f = length-drop (length f) r in
     let one : at + n ≡ at + n + 0 = omega arith in
     let two : at + (length s - length rest) ≡ at + n + (length (c ∷ r) - length rest) = omega arith in
@@ -176,20 +176,20 @@ skips_tags t place at n st s c r names m behind count h =
 
 -- ---- a part
 
-piece_closes : (t : List Entry) (place : ℕ → ℕ) (at n : ℕ) (st : Construction) (s : List ℕ) (c : ℕ) (r : List ℕ) → IsTable t → reads_markup (mode_of st.path) ≡ true → is_behind_body st.insertion_mode ≡ false → (behind_empty_tags s).rest ≡ c ∷ r → n ≡ (behind_empty_tags s).count → ends_plain t false c r ≡ false
+piece_closes : (t : List Entry) (place : ℕ → ℕ) (at n : ℕ) (st : Construction) (s : List ℕ) (c : ℕ) (r : List ℕ) → IsTable t → reads_markup (mode_of st.path) ≡ true → is_after_body st.insertion_mode ≡ false → (after_empty_tags s).rest ≡ c ∷ r → n ≡ (after_empty_tags s).count → ends_plain t false c r ≡ false
     → closed_from t place 0 at st s ≡ open_step (step_bytes (c ∷ plain_piece t r) st) (λ next. closed_from t place 0 (at + n + suc (length (plain_piece t r))) next (drop (length (plain_piece t r)) r))
-piece_closes t place at n st s c r tab m o behind count h =
+piece_closes t place at n st s c r tab m o following count h =
     let f : List ℕ = plain_piece t r in
     let left : List ℕ = drop (length f) r in
     let cut : r ≡ f ++ (left ++ []) = piece_front t r ∙ ap (λ l. f ++ l) (sym (append-nil left)) in
     let plain : ends_plain t false c (f ++ (left ++ [])) ≡ false = ap (ends_plain t false c) (sym cut) ∙ h in
-    skips_tags t place at n st s c r (names_of_table t tab) m behind count h
+    skips_tags t place at n st s c r (names_of_table t tab) m following count h
     ∙ ap (λ l. closed_from t place 0 (at + n) st (c ∷ l)) cut
     ∙ text_closes t place (at + n) st c f (left ++ []) m o (plain, piece_plain t r [] tab)
     ∙ ap (λ l. open_step (step_bytes (c ∷ f) st) (λ next. closed_from t place 0 (at + n + suc (length f)) next l)) (append-nil left)
 
 pub part_closes : (r : Reading) (b : Building) (m : Mode) (token : Spanned) (new : Reading) (s : List ℕ) (after : Building) → IsTable r.names → IsPartway r b → m ≡ mode_of b.state.path → IsPart r m token new → text_of r ≡ s
-    → IsStepped (step b.state (seen s token.token)) b after → is_behind_body b.state.insertion_mode ≡ false → ClosesAt r b token.from new after
+    → IsStepped (step b.state (seen s token.token)) b after → is_after_body b.state.insertion_mode ≡ false → ClosesAt r b token.from new after
 part_closes r b m token new s after tab p e k t done o =
     closes_with r b token new after k.forward k.inside k.moved (by (kind r b token new here)) (subst (λ x. IsStepped (step b.state (seen x token.token)) b after) (sym t) done)
   where
@@ -210,7 +210,7 @@ part_closes r b m token new s after tab p e k t done o =
         let to : r.at + here.passed + suc (length (plain_piece r.names is.more)) ≡ token.to = omega arith in
         let text : seen (text_of r) token.token ≡ slice (is.head ∷ plain_piece r.names is.more) = f ∙ ap slice is.bytes in
         let bytes : Stepped = step_bytes (is.head ∷ plain_piece r.names is.more) b.state in
-        piece_closes r.names (place_of r.source) r.at here.passed b.state (left_of r) is.head is.more tab is.markup o is.behind is.count is.plain
+        piece_closes r.names (place_of r.source) r.at here.passed b.state (left_of r) is.head is.more tab is.markup o is.after is.count is.plain
         ∙ ap₂ (λ i (l : List ℕ). open_step bytes (λ next. closed_from r.names (place_of r.source) 0 i next l)) to (sym is.left)
         ∙ sym (open_closed (place_of r.source) token.from bytes more (bytes_open (is.head ∷ plain_piece r.names is.more) b.state o))
         ∙ ap (λ z. closed_step (place_of r.source) token.from z more) (sym (ap (step b.state) text ∙ step_text b.state (is.head ∷ plain_piece r.names is.more)))
@@ -227,7 +227,7 @@ open_where : (at : ℕ) (x : Bool) → cond x (Some at) None ≡ None → x ≡ 
 open_where at true e = cc
 open_where at false e = refl
 
-pub closes_on : (r : Reading) (b : Building) (from : ℕ) (page : Source) (new : Reading) (after : Building) (before by_now : Option ℕ) → r.source ≡ page → by_now ≡ first_of before (closed_here after page from) → (is_behind_body b.state.insertion_mode ≡ false → ClosesAt r b from new after)
+pub closes_on : (r : Reading) (b : Building) (from : ℕ) (page : Source) (new : Reading) (after : Building) (before by_now : Option ℕ) → r.source ≡ page → by_now ≡ first_of before (closed_here after page from) → (is_after_body b.state.insertion_mode ≡ false → ClosesAt r b from new after)
     → KnowsClosed before b → ClosesOn before r b by_now new after
 closes_on r b from page new after (Some at) by_now e is closes knows = record {
   is = ap (λ o. first_of o (closed_left new after)) (sym is);
@@ -237,13 +237,13 @@ closes_on r b from page new after None by_now e is closes knows =
     let here : by_now ≡ closed_here after r.source from = is ∙ ap (λ v. closed_here after v from) (sym e) in
     record {
       is = (closes (knows refl)).is ∙ ap (λ o. first_of o (closed_left new after)) (sym here);
-      open_still = λ none. open_where (place_of r.source from) (is_behind_body after.state.insertion_mode) (sym here ∙ none);
+      open_still = λ none. open_where (place_of r.source from) (is_after_body after.state.insertion_mode) (sym here ∙ none);
     }
 
 pub closes_further : (before mid by_now : Option ℕ) (r s u : Reading) (b c d : Building) → ClosesOn before r b mid s c → ClosesOn mid s c by_now u d → ClosesOn before r b by_now u d
 closes_further before mid by_now r s u b c d h k = record { is = h.is ∙ k.is; open_still = k.open_still }
 
 -- where it is closed in the whole text, by what is found in the rest of it
-pub closed_in_rest : (closed later : Option ℕ) (r s : Reading) (b c : Building) → ClosesOn None r b closed s c → (is_behind_body c.state.insertion_mode ≡ false → closed_left s c ≡ later) → closed_left r b ≡ first_of closed later
+pub closed_in_rest : (closed later : Option ℕ) (r s : Reading) (b c : Building) → ClosesOn None r b closed s c → (is_after_body c.state.insertion_mode ≡ false → closed_left s c ≡ later) → closed_left r b ≡ first_of closed later
 closed_in_rest (Some at) later r s b c h k = h.is
 closed_in_rest None later r s b c h k = h.is ∙ k (h.open_still refl)

@@ -10,13 +10,13 @@ use Rattle.hm_lexer.specs.Reading.{Reading, text_of}
 use Rattle.hm_insertion.specs.Building.{Building}
 use Rattle.hm_build.specs.Feeding.{Comes, IsPartway, StopsAs, left, whole_tree}
 use Rattle.hm_build.specs.Parsing.{IsParsing, IsRefusedAs, left_tree, place_of}
-use Rattle.hm_build.proofs.Coming.{tree_behind}
+use Rattle.hm_build.proofs.Coming.{tree_after}
 use Rattle.hm_build.proofs.PartTurns.{left_bytes, plain_left}
 
 left_is : (r : Reading) (b : Building) → left_tree r b ≡ whole_tree r.names b (left r) r.source.end
 left_is r b =
     ap (λ s. after_events b.walk (tree_from r.names (place_of r.source) 0 r.at b.state s)) (left_bytes r)
-    ∙ ap (after_events b.walk) (tree_behind r.names b.state r.source.placed r.source.end r.at)
+    ∙ ap (after_events b.walk) (tree_after r.names b.state r.source.placed r.source.end r.at)
 
 pub comes_to : (r s : Reading) (b c : Building) → s.source ≡ r.source → s.names ≡ r.names → Comes r.names b (left r) c (left s) → left_tree r b ≡ left_tree s c
 comes_to r s b c source names h =
@@ -24,7 +24,7 @@ comes_to r s b c source names h =
     ∙ ap (λ l. whole_tree r.names c l r.source.end) (append-nil (left s)) ∙ ap (λ t. whole_tree t c (left s) r.source.end) (sym names) ∙ ap (λ (v : Source). whole_tree s.names c (left s) v.end) (sym source) ∙ sym (left_is s c)
 
 pub stops_at : (r : Reading) (b : Building) (answer : Refused) → StopsAs r.names b (left r) answer → IsRefusedAs (left_tree r b) answer
-stops_at r b answers.Memory h = tt
+stops_at r b answers.OutOfMemory h = tt
 stops_at r b (answers.Page rule at) h = left_is r b ∙ ap (λ l. whole_tree r.names b l r.source.end) (sym (append-nil (left r))) ∙ h.tree [] r.source.end
 
 pub parses_on : (r : Reading) (b : Building) (page : Source) (s : List ℕ) → r.source ≡ page → s ≡ map byte_of page.placed → all_pass is_text_byte s ≡ true → IsUtf8 s → IsPartway r b → IsParsing r b

@@ -20,7 +20,7 @@ use Rattle.hm_tree.specs.Tokens.{Seen, seen, taken, refused, doctype, start_tag,
 use Rattle.hm_tree.specs.declared.tokens.Placed.{Placed}
 use Rattle.hm_tree.specs.declared.tokens.Spanned.{Spanned}
 use Rattle.hm_tree.specs.declared.tokens.Tag.{Tag}
-use Rattle.hm_token_laws.specs.First.{Mode, ordinary, in_svg, rcdata, raw, script, Next, at_end, behind_bytes, behind_empty_tags, first, next_here, read_markup, rule_of}
+use Rattle.hm_token_laws.specs.First.{Mode, ordinary, in_svg, rcdata, raw, script, Next, at_end, after_bytes, after_empty_tags, first, next_here, read_markup, rule_of}
 use Rattle.hm_token_laws.specs.Laws.{IsPlain, SoundNames, TakesBytes, token_size, least_size, growth, reads_markup}
 use Rattle.hm_token_laws.proofs.Firsts.{tokens_are_small, tokens_are_sound}
 use Rattle.hm_construction_laws.specs.Steps.{Construction, Stepped, went, stops, step, step_bytes}
@@ -28,7 +28,7 @@ use Rattle.hm_construction_laws.specs.Trees.{mode_of}
 use Rattle.hm_construction_laws.specs.Weights.{Within, cost, load, load_size, size_cost}
 use Rattle.hm_construction_laws.proofs.Modes.{is_mode}
 use Rattle.hm_construction_laws.proofs.Weights.{WithinText, bytes_within, step_within}
-use Rattle.hm_lexer.specs.Ready.{is_told, part, part_behind, piece_by, plain_piece, ready, text_part}
+use Rattle.hm_lexer.specs.Ready.{is_told, part, part_after, piece_by, plain_piece, ready, text_part}
 use Rattle.hm_lexer.proofs.Building.{tags_counted}
 use Rattle.hm_lexer.specs.Parts.{GivesPart, IsPart, IsPartFaulty, RefusesPart, left_of}
 use Rattle.hm_lexer.specs.Reading.{Reading, text_of}
@@ -49,19 +49,19 @@ pub record IsPieceOf (t : List Entry) (mode : Mode) (s : List ℕ) (n : ℕ) (x 
   pub head : ℕ
   pub more : List ℕ
   pub markup : reads_markup mode ≡ true
-  pub behind : (behind_empty_tags s).rest ≡ head ∷ more
-  pub count : n ≡ (behind_empty_tags s).count
+  pub after : (after_empty_tags s).rest ≡ head ∷ more
+  pub count : n ≡ (after_empty_tags s).count
   pub plain : ends_plain t false head more ≡ false
   pub bytes : x ≡ head ∷ plain_piece t more
   pub left : rest ≡ drop (length (plain_piece t more)) more
 
 pub data PartKind (t : List Entry) (mode : Mode) (s : List ℕ) (n : ℕ) (token : Seen) (rest : List ℕ) : Type 0 where
-  whole : first t mode s ≡ behind_bytes n (taken token rest) → PartKind t mode s n token rest
+  whole : first t mode s ≡ after_bytes n (taken token rest) → PartKind t mode s n token rest
   piece : (x : List ℕ) → token ≡ slice x → length s ≡ n + length x + length rest → 0 < length x → IsPieceOf t mode s n x rest → PartKind t mode s n token rest
 
 abbrev is_end : Next → Bool
 is_end at_end = true
-is_end (behind_bytes n read) = false
+is_end (after_bytes n read) = false
 
 no : {b : Bool} → b ≡ true → b ≡ false → ⊥
 no e f = cc
@@ -76,25 +76,25 @@ piece_short t (c ∷ s) = by (is_told c s && not (ends_plain t false c s)) (piec
 
 abbrev count_of : Next → ℕ
 count_of at_end = 0
-count_of (behind_bytes n read) = n
+count_of (after_bytes n read) = n
 
 abbrev token_in : Next → Seen
 token_in at_end = slice []
-token_in (behind_bytes n (refused fault)) = slice []
-token_in (behind_bytes n (taken token rest)) = token
+token_in (after_bytes n (refused fault)) = slice []
+token_in (after_bytes n (taken token rest)) = token
 
 abbrev rest_in : Next → List ℕ
 rest_in at_end = []
-rest_in (behind_bytes n (refused fault)) = []
-rest_in (behind_bytes n (taken token rest)) = rest
+rest_in (after_bytes n (refused fault)) = []
+rest_in (after_bytes n (taken token rest)) = rest
 
-kind_behind : (t : List Entry) (foreign : Bool) (mode : Mode) (s : List ℕ) (count : ℕ) (behind : List ℕ) (n : ℕ) (token : Seen) (rest : List ℕ) → length s ≡ count + length behind → reads_markup mode ≡ true → (behind_empty_tags s).rest ≡ behind → count ≡ (behind_empty_tags s).count
-    → first t mode s ≡ next_here t foreign (record { count = count; rest = behind }) → part_behind t foreign (record { count = count; rest = behind }) ≡ behind_bytes n (taken token rest) → PartKind t mode s n token rest
+kind_after : (t : List Entry) (foreign : Bool) (mode : Mode) (s : List ℕ) (count : ℕ) (after : List ℕ) (n : ℕ) (token : Seen) (rest : List ℕ) → length s ≡ count + length after → reads_markup mode ≡ true → (after_empty_tags s).rest ≡ after → count ≡ (after_empty_tags s).count
+    → first t mode s ≡ next_here t foreign (record { count = count; rest = after }) → part_after t foreign (record { count = count; rest = after }) ≡ after_bytes n (taken token rest) → PartKind t mode s n token rest
 unfolding read_text
-kind_behind t foreign mode s count [] n token rest l m is here f e = absurd (no refl (ap is_end e))
-kind_behind t foreign mode s count (c ∷ r) n token rest l m is here f e = by (begins_markup (c ∷ r)) refl f e
+kind_after t foreign mode s count [] n token rest l m is here f e = absurd (no refl (ap is_end e))
+kind_after t foreign mode s count (c ∷ r) n token rest l m is here f e = by (begins_markup (c ∷ r)) refl f e
   where
-    text : begins_markup (c ∷ r) ≡ false → (o : Option Reference) → reference_in t c r ≡ o → first t mode s ≡ behind_bytes count (read_by o t false (c ∷ r)) → behind_bytes count (piece_by o t c r) ≡ behind_bytes n (taken token rest) → PartKind t mode s n token rest
+    text : begins_markup (c ∷ r) ≡ false → (o : Option Reference) → reference_in t c r ≡ o → first t mode s ≡ after_bytes count (read_by o t false (c ∷ r)) → after_bytes count (piece_by o t c r) ≡ after_bytes n (taken token rest) → PartKind t mode s n token rest
     text b (Some found) k g h = whole (g ∙ h)
     text b None k g h =
         let short = piece_short t r in
@@ -103,29 +103,29 @@ kind_behind t foreign mode s count (c ∷ r) n token rest l m is here f e = by (
         let counted_is : count ≡ n = ap count_of h in
         let plain : ends_plain t false c r ≡ false = ap₂ (λ p o. p || is_some o) b k in
         piece (c ∷ plain_piece t r) (sym (ap token_in h)) (omega (arith, ap length rest_is, counted_is)) (omega arith)
-        (record { head = c; more = r; markup = m; behind = is; count = sym counted_is ∙ here; plain = plain; bytes = refl; left = sym rest_is })
+        (record { head = c; more = r; markup = m; after = is; count = sym counted_is ∙ here; plain = plain; bytes = refl; left = sym rest_is })
 
-    by : (b : Bool) → begins_markup (c ∷ r) ≡ b → first t mode s ≡ behind_bytes count (cond b (read_markup t foreign (c ∷ r)) (read_text t false (c ∷ r))) → behind_bytes count (cond b (read_markup t foreign (c ∷ r)) (text_part t (c ∷ r))) ≡ behind_bytes n (taken token rest) → PartKind t mode s n token rest
+    by : (b : Bool) → begins_markup (c ∷ r) ≡ b → first t mode s ≡ after_bytes count (cond b (read_markup t foreign (c ∷ r)) (read_text t false (c ∷ r))) → after_bytes count (cond b (read_markup t foreign (c ∷ r)) (text_part t (c ∷ r))) ≡ after_bytes n (taken token rest) → PartKind t mode s n token rest
     by true b g h = whole (g ∙ h)
     by false b g h = text b (reference_in t c r) refl g h
 
-pub part_kind : (t : List Entry) (mode : Mode) (s : List ℕ) (n : ℕ) (token : Seen) (rest : List ℕ) → part t mode s ≡ behind_bytes n (taken token rest) → PartKind t mode s n token rest
+pub part_kind : (t : List Entry) (mode : Mode) (s : List ℕ) (n : ℕ) (token : Seen) (rest : List ℕ) → part t mode s ≡ after_bytes n (taken token rest) → PartKind t mode s n token rest
 unfolding part first
-part_kind t ordinary s n token rest e = kind_behind t false ordinary s (behind_empty_tags s).count (behind_empty_tags s).rest n token rest (tags_counted s) refl refl refl refl e
-part_kind t in_svg s n token rest e = kind_behind t true in_svg s (behind_empty_tags s).count (behind_empty_tags s).rest n token rest (tags_counted s) refl refl refl refl e
+part_kind t ordinary s n token rest e = kind_after t false ordinary s (after_empty_tags s).count (after_empty_tags s).rest n token rest (tags_counted s) refl refl refl refl e
+part_kind t in_svg s n token rest e = kind_after t true in_svg s (after_empty_tags s).count (after_empty_tags s).rest n token rest (tags_counted s) refl refl refl refl e
 part_kind t (rcdata name) s n token rest e = whole e
 part_kind t (raw name) s n token rest e = whole e
 part_kind t script s n token rest e = whole e
 
 -- ---- a text that is there
 
-plain_behind : (at : ℕ) (s : List ℕ) → all_pass is_text_byte s ≡ true → all_pass is_text_byte (drop at s) ≡ true
-plain_behind zero s h = h
-plain_behind (suc at) [] h = refl
-plain_behind (suc at) (c ∷ s) h = plain_behind at s (second_true (is_text_byte c) (all_pass is_text_byte s) h)
+plain_after : (at : ℕ) (s : List ℕ) → all_pass is_text_byte s ≡ true → all_pass is_text_byte (drop at s) ≡ true
+plain_after zero s h = h
+plain_after (suc at) [] h = refl
+plain_after (suc at) (c ∷ s) h = plain_after at s (second_true (is_text_byte c) (all_pass is_text_byte s) h)
 
 pub plain_left : (s : List ℕ) (at : ℕ) → all_pass is_text_byte s ≡ true → IsUtf8 s → IsCharBoundary s at → IsPlain (drop at s)
-plain_left s at plain utf8 starts = record { bytes = plain_behind at s plain; utf8 = is_utf8-from_IsUtf8 (drop at s) (IsUtf8-drop s at utf8 starts) }
+plain_left s at plain utf8 starts = record { bytes = plain_after at s plain; utf8 = is_utf8-from_IsUtf8 (drop at s) (IsUtf8-drop s at utf8 starts) }
 
 -- ---- a part
 
@@ -185,8 +185,8 @@ pub left_bytes : (r : Reading) → left_of r ≡ map byte_of (left r)
 left_bytes r = drop-map byte_of r.at r.source.placed
 
 part_here : (r : Reading) (b : Building) (token : Spanned) (new : Reading) → (k : IsPart r (mode_of b.state.path) token new) → r.at ≤ token.to
-    → part r.names (mode_of b.state.path) (map byte_of (left r)) ≡ behind_bytes k.passed (taken (seen (text_of r) token.token) (drop (token.to - r.at) (map byte_of (left r))))
-part_here r b token new k h = ap (part r.names (mode_of b.state.path)) (sym (left_bytes r)) ∙ k.is ∙ ap (λ x. behind_bytes k.passed (taken (seen (text_of r) token.token) x)) (sym (cut_bytes r token.to h))
+    → part r.names (mode_of b.state.path) (map byte_of (left r)) ≡ after_bytes k.passed (taken (seen (text_of r) token.token) (drop (token.to - r.at) (map byte_of (left r))))
+part_here r b token new k h = ap (part r.names (mode_of b.state.path)) (sym (left_bytes r)) ∙ k.is ∙ ap (λ x. after_bytes k.passed (taken (seen (text_of r) token.token) x)) (sym (cut_bytes r token.to h))
 
 ready_here : (r : Reading) (b : Building) → ready r.names (mode_of b.state.path) (left_of r) ≡ true → ready r.names (mode_of b.state.path) (map byte_of (left r)) ≡ true
 ready_here r b h = ap (ready r.names (mode_of b.state.path)) (sym (left_bytes r)) ∙ h
@@ -252,7 +252,7 @@ place_left (a ∷ placed) end (suc at) n =
 
 pub fault_inside : (r : Reading) (b : Building) (m : Mode) (token : Spanned) (new : Reading) (s : List ℕ) (fault : BuildFault) → IsTable r.names → IsPartway r b → m ≡ mode_of b.state.path → IsPart r m token new → text_of r ≡ s
     → IsRefused (step b.state (seen s token.token)) fault → token.from + span_of fault ≤ length s
-fault_inside r b m token new s faults.Memory names p e k t f =
+fault_inside r b m token new s faults.OutOfMemory names p e k t f =
     let a : length (text_of r) ≡ length s = ap length t in
     let forward : token.from < token.to = k.forward in
     let inside : token.to ≤ length (text_of r) = k.inside in
@@ -269,7 +269,7 @@ fault_inside r b m token new s (faults.Rule rule n) names p e k t f =
 
 pub token_refused : (r : Reading) (b : Building) (m : Mode) (token : Spanned) (new : Reading) (s : List ℕ) (fault : BuildFault) → IsTable r.names → IsPartway r b → m ≡ mode_of b.state.path → IsPart r m token new → text_of r ≡ s
     → IsRefused (step b.state (seen s token.token)) fault → StopsAs r.names b (left r) (answer_of fault (place_of r.source (token.from + span_of fault)))
-token_refused r b m token new s faults.Memory names p e k t f = tt
+token_refused r b m token new s faults.OutOfMemory names p e k t f = tt
 token_refused r b m token new s (faults.Rule rule n) names p e k t f =
     let here = in_mode r m (mode_of b.state.path) token new e k in
     let c = counted r b token new (sound_names r.names names) p here in
@@ -285,12 +285,12 @@ token_refused r b m token new s (faults.Rule rule n) names p e k t f =
     (part_stops r.names b (left r) here.passed (token.to - r.at) (seen (text_of r) token.token) rule n r.source.end names (omega (arith, text_long r)) (omega (arith, text_long r)) (ready_here r b here.is_ready) (part_here r b token new here (omega arith)) stops_here)
 
 pub lexer_stops : (r : Reading) (b : Building) (m : Mode) (answer : Refused) → IsTable r.names → IsPartway r b → m ≡ mode_of b.state.path → RefusesPart r m answer → StopsAs r.names b (left r) answer
-lexer_stops r b m answers.Memory names p e f = tt
+lexer_stops r b m answers.OutOfMemory names p e f = tt
 lexer_stops r b m (answers.Page rule at) names p e f =
     let here : IsPartFaulty r (mode_of b.state.path) rule at = subst (λ x. IsPartFaulty r x rule at) e f in
     let long : length (left r) ≡ length r.source.placed - r.at = length-drop r.at r.source.placed in
     let inside : r.at + here.passed < length (text_of r) = here.inside in
-    let is : part r.names (mode_of b.state.path) (map byte_of (left r)) ≡ behind_bytes here.passed (refused here.fault) = ap (part r.names (mode_of b.state.path)) (sym (left_bytes r)) ∙ here.is in
+    let is : part r.names (mode_of b.state.path) (map byte_of (left r)) ≡ after_bytes here.passed (refused here.fault) = ap (part r.names (mode_of b.state.path)) (sym (left_bytes r)) ∙ here.is in
     let place : at ≡ place_in (left r) r.source.end here.passed = here.place_is ∙ place_left r.source.placed r.source.end r.at here.passed in
     subst (λ x. IsStopped r.names b (left r) x at) (sym here.rule_is) (subst (IsStopped r.names b (left r) (rule_of here.fault)) (sym place)
     (fault_stops r.names b (left r) here.passed r.source.end here.fault names (omega (arith, text_long r)) (ready_here r b here.is_ready) is))

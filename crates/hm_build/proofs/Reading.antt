@@ -5,7 +5,7 @@ use Rattle.hm_base.specs.Walks.{Event}
 use Rattle.hm_refs.specs.Names.{Entry}
 use Rattle.hm_tree.specs.Tokens.{Seen, taken, refused}
 use Rattle.hm_tree.specs.declared.tokens.ScanFault.{ScanFault}
-use Rattle.hm_token_laws.specs.First.{Mode, ordinary, in_svg, rcdata, raw, script, at_end, behind_bytes, first, rule_of}
+use Rattle.hm_token_laws.specs.First.{Mode, ordinary, in_svg, rcdata, raw, script, at_end, after_bytes, first, rule_of}
 use Rattle.hm_construction_laws.specs.Steps.{Construction, Stepped, went, stops, step}
 use Rattle.hm_construction_laws.specs.Trees.{Outcome, built, refused_by, after_events, mode_of, stepped, over, tree_from}
 use Rattle.hm_insertion.specs.Building.{grown}
@@ -25,7 +25,7 @@ skipped t place (suc k) at st (c ∷ s) h =
 
 -- the tree goes on after a token, which ends at `to`, and after the n bytes before it that stand for nothing
 pub goes_on : (t : List Entry) (place : ℕ → ℕ) (at n to : ℕ) (st : Construction) (token : Seen) (s : List ℕ) → at < to → to ≤ at + length s
-    → first t (mode_of st.path) s ≡ behind_bytes n (taken token (drop (to - at) s))
+    → first t (mode_of st.path) s ≡ after_bytes n (taken token (drop (to - at) s))
     → tree_from t place 0 at st s ≡ stepped place (at + n) (step st token) (λ next. tree_from t place 0 to next (drop (to - at) s))
 goes_on t place at n to st token [] h k e = absurd (none at to h k)
   where
@@ -55,7 +55,7 @@ ends_here t place at st [] e = ap (λ i. over place i st) (omega arith)
 ends_here t place at st (c ∷ s) e = rw e refl
 
 -- nothing is faulty where nothing is left
-no_fault : (t : List Entry) (mode : Mode) (n : ℕ) (fault : ScanFault) → first t mode [] ≡ behind_bytes n (refused fault) → ⊥
+no_fault : (t : List Entry) (mode : Mode) (n : ℕ) (fault : ScanFault) → first t mode [] ≡ after_bytes n (refused fault) → ⊥
 unfolding first
 no_fault t ordinary n fault e = cc
 no_fault t in_svg n fault e = cc
@@ -64,7 +64,7 @@ no_fault t (raw name) n fault e = cc
 no_fault t script n fault e = cc
 
 -- a fault refuses the page
-pub is_faulty : (t : List Entry) (place : ℕ → ℕ) (at n : ℕ) (st : Construction) (fault : ScanFault) (s : List ℕ) → first t (mode_of st.path) s ≡ behind_bytes n (refused fault) → tree_from t place 0 at st s ≡ refused_by (rule_of fault) (place (at + n))
+pub is_faulty : (t : List Entry) (place : ℕ → ℕ) (at n : ℕ) (st : Construction) (fault : ScanFault) (s : List ℕ) → first t (mode_of st.path) s ≡ after_bytes n (refused fault) → tree_from t place 0 at st s ≡ refused_by (rule_of fault) (place (at + n))
 is_faulty t place at n st fault [] e = absurd (no_fault t (mode_of st.path) n fault e)
 is_faulty t place at n st fault (c ∷ s) e = rw e refl
 

@@ -15,7 +15,7 @@ use Rattle.hm_tree.specs.Tokens.{Seen, seen, taken, refused, doctype, start_tag,
 use Rattle.hm_tree.specs.declared.tokens.Placed.{Placed}
 use Rattle.hm_tree.specs.declared.tokens.Spanned.{Spanned}
 use Rattle.hm_tree.specs.declared.tokens.Tag.{Tag}
-use Rattle.hm_token_laws.specs.First.{Mode, at_end, behind_bytes, first}
+use Rattle.hm_token_laws.specs.First.{Mode, at_end, after_bytes, first}
 use Rattle.hm_token_laws.specs.Laws.{IsPlain, SoundNames, SoundToken, TakesBytes, token_size, least_size, growth}
 use Rattle.hm_token_laws.proofs.Firsts.{tokens_are_small, tokens_are_sound}
 use Rattle.hm_construction_laws.specs.Steps.{Construction, Stepped, went, stops, step}
@@ -56,9 +56,9 @@ text_here r page s e is len plain utf8 within short =
 -- ---- no token
 
 pub lexer_refuses : (r : Reading) (b : Building) (m : Mode) (answer : Refused) → IsParsing r b → m ≡ mode_of b.state.path → Refuses r m answer → IsRefusedAs (left_tree r b) answer
-lexer_refuses r b m answers.Memory p e f = tt
+lexer_refuses r b m answers.OutOfMemory p e f = tt
 lexer_refuses r b m (answers.Page rule at) p e f =
-    let here : first r.names (mode_of b.state.path) (drop r.at (text_of r)) ≡ behind_bytes f.passed (refused f.fault) = subst (λ k. first r.names k (drop r.at (text_of r)) ≡ behind_bytes f.passed (refused f.fault)) e f.is in
+    let here : first r.names (mode_of b.state.path) (drop r.at (text_of r)) ≡ after_bytes f.passed (refused f.fault) = subst (λ k. first r.names k (drop r.at (text_of r)) ≡ after_bytes f.passed (refused f.fault)) e f.is in
     ap (after_events b.walk) (is_faulty r.names (place_of r.source) r.at f.passed b.state f.fault (drop r.at (text_of r)) here)
     ∙ ap (λ x. refused_by x (place_of r.source (r.at + f.passed))) (sym f.rule_is) ∙ ap (refused_by rule) (sym f.place_is)
 
@@ -133,7 +133,7 @@ steps_on r b token new p k =
     let from : token.from ≡ r.at + k.passed = k.from in
     let forward : token.from < token.to = k.forward in
     let rest : drop token.to (text_of r) ≡ drop (token.to - r.at) (drop r.at (text_of r)) = further r.at token.to (text_of r) (omega arith) in
-    let here : first r.names (mode_of b.state.path) (drop r.at (text_of r)) ≡ behind_bytes k.passed (taken (seen (text_of r) token.token) (drop (token.to - r.at) (drop r.at (text_of r)))) = k.is ∙ ap (λ x. behind_bytes k.passed (taken (seen (text_of r) token.token) x)) rest in
+    let here : first r.names (mode_of b.state.path) (drop r.at (text_of r)) ≡ after_bytes k.passed (taken (seen (text_of r) token.token) (drop (token.to - r.at) (drop r.at (text_of r)))) = k.is ∙ ap (λ x. after_bytes k.passed (taken (seen (text_of r) token.token) x)) rest in
     ap (after_events b.walk) (goes_on r.names (place_of r.source) r.at k.passed token.to b.state (seen (text_of r) token.token) (drop r.at (text_of r)) (omega arith) (omega arith) here
     ∙ ap (λ i. stepped (place_of r.source) i (step b.state (seen (text_of r) token.token)) (λ next. tree_from r.names (place_of r.source) 0 token.to next (drop (token.to - r.at) (drop r.at (text_of r))))) (sym k.from)
     ∙ ap (λ x. stepped (place_of r.source) token.from (step b.state (seen (text_of r) token.token)) (λ next. tree_from r.names (place_of r.source) 0 token.to next x)) (sym rest))
@@ -171,7 +171,7 @@ token_taken r b m token new s after names p e k t done = by (step b.state (seen 
 
 pub token_refused : (r : Reading) (b : Building) (m : Mode) (token : Spanned) (new : Reading) (s : List ℕ) (fault : BuildFault) → IsParsing r b → m ≡ mode_of b.state.path → IsTaken r m token new → text_of r ≡ s
     → IsRefused (step b.state (seen s token.token)) fault → IsRefusedAs (left_tree r b) (answer_of fault (place_of r.source (token.from + span_of fault)))
-token_refused r b m token new s faults.Memory p e k t f = tt
+token_refused r b m token new s faults.OutOfMemory p e k t f = tt
 token_refused r b m token new s (faults.Rule rule n) p e k t f =
     let here : IsTaken r (mode_of b.state.path) token new = in_mode r m (mode_of b.state.path) token new e k in
     let stops_here : step b.state (seen (text_of r) token.token) ≡ stops rule n = subst (λ x. step b.state (seen x token.token) ≡ stops rule n) (sym t) f in
@@ -179,7 +179,7 @@ token_refused r b m token new s (faults.Rule rule n) p e k t f =
 
 pub fault_inside : (r : Reading) (b : Building) (m : Mode) (token : Spanned) (new : Reading) (s : List ℕ) (fault : BuildFault) → SoundNames r.names → IsParsing r b → m ≡ mode_of b.state.path → IsTaken r m token new → text_of r ≡ s
     → IsRefused (step b.state (seen s token.token)) fault → token.from + span_of fault ≤ length s
-fault_inside r b m token new s faults.Memory names p e k t f =
+fault_inside r b m token new s faults.OutOfMemory names p e k t f =
     let a : length (text_of r) ≡ length s = ap length t in
     let forward : token.from < token.to = k.forward in
     let inside : token.to ≤ length (text_of r) = k.inside in

@@ -12,10 +12,10 @@ use Rattle.hm_refs.specs.Names.{Entry}
 use Rattle.hm_refs.specs.Tables.{IsTable}
 use Rattle.hm_construction_laws.specs.Trees.{Outcome, built, refused_by, page_tree, tree_of_text, unless_faulty}
 use Rattle.hm_construction_laws.proofs.Pages.{pages_are_settled}
-use Rattle.hm_feed.specs.Fed.{decided}
-use Rattle.hm_feed.specs.Pieces.{HasFed, HasPage, Pieces, fault_of_page, told_at}
-use Rattle.hm_feed.proofs.Feeding.{fault_within}
-use Rattle.hm_feed.proofs.Texts.{whole_texts_follow}
+use Rattle.hm_decoder.specs.Fed.{decided}
+use Rattle.hm_decoder.specs.Pieces.{HasFed, HasPage, Pieces, fault_of_page, told_at}
+use Rattle.hm_decoder.proofs.Feeding.{fault_within}
+use Rattle.hm_decoder.proofs.Texts.{whole_texts_follow}
 use Rattle.hm_insertion.specs.Building.{first_building}
 use Rattle.hm_build.specs.Feeding.{Comes, Ends, EndsAs, Feeding, HasCome, IsBuiltFrom, IsStopped, page_outcome_within, whole_tree}
 use Rattle.hm_build.specs.Parsing.{IsRefusedAs, left_tree, reads}
@@ -81,7 +81,7 @@ ends_refused f q page (answers.Page rule at) h same e = by q.fault refl e.1
     by : (o : Option (Rule × ℕ)) → q.fault ≡ o → option_or o f.refused ≡ Some (rule, at) → page_outcome_within f.pieces.limit f.names page ≡ refused_by rule at
     by (Some r) is k = ends_faulty f q page rule at h e.0 same (is ∙ k)
     by None is k = ends_stopped f q page rule at h e.0 same is k
-ends_refused f q page answers.Memory h same e = tt
+ends_refused f q page answers.OutOfMemory h same e = tt
 
 -- no refusal of either kind
 pub none_of_both : {A : Type 0} (o p : Option A) → option_or o p ≡ None → (o ≡ None) × (p ≡ None)
@@ -112,4 +112,4 @@ settled_within limit t page w names h = by (nat_lt limit (length page)) h
 -- the same refusal
 pub refused_same : (o p : Outcome) (answer : Refused) → o ≡ p → IsRefusedAs p answer → IsRefusedAs o answer
 refused_same o p (answers.Page rule at) e h = e ∙ h
-refused_same o p answers.Memory e h = tt
+refused_same o p answers.OutOfMemory e h = tt

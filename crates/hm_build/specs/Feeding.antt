@@ -7,8 +7,8 @@ use Rattle.hm_base.specs.declared.rules.Rule.TheVariants.{TooLong}
 use Rattle.hm_refs.specs.Names.{Entry}
 use Rattle.hm_construction_laws.specs.Steps.{Construction, first_state}
 use Rattle.hm_construction_laws.specs.Trees.{Outcome, refused_by, after_events, mode_of, page_tree, tree_from}
-use Rattle.hm_feed.specs.Fed.{decided}
-use Rattle.hm_feed.specs.Pieces.{HasFed, HasPage, Pieces, before_text, fault_so_far}
+use Rattle.hm_decoder.specs.Fed.{decided}
+use Rattle.hm_decoder.specs.Pieces.{HasFed, HasPage, Pieces, before_text, fault_so_far}
 use Rattle.hm_lexer.specs.Ready.{ready}
 use Rattle.hm_lexer.specs.Standing.{Standing, stands}
 use Rattle.hm_base.specs.declared.rules.Refused.{Refused}
@@ -54,7 +54,7 @@ IsWaiting r b = ready r.names (mode_of b.state.path) (left_of r) ≡ false
 -- want of memory has no cause in the text
 abbrev pub StopsAs : List Entry → Building → List PlacedByte → Refused → Type 0
 StopsAs t b text (answers.Page rule place) = IsStopped t b text rule place
-StopsAs t b text answers.Memory = Unit {0}
+StopsAs t b text answers.OutOfMemory = Unit {0}
 
 -- ---- a builder that is fed
 
@@ -101,7 +101,7 @@ Ends old new = (gone : List PlacedByte) (page : List ℕ) → HasFed old gone pa
 -- the page has no more bytes, and is refused so: by its text, or else by a token
 abbrev pub EndsAs : Pieces → Pieces → Option (Rule × ℕ) → Refused → Type 0
 EndsAs old new refused (answers.Page rule at) = Ends old new × (option_or new.fault refused ≡ Some (rule, at))
-EndsAs old new refused answers.Memory = Unit {0}
+EndsAs old new refused answers.OutOfMemory = Unit {0}
 
 -- ---- what is asked
 

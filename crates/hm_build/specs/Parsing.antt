@@ -9,7 +9,7 @@ use Rattle.hm_refs.specs.Names.{Entry}
 use Rattle.hm_token_laws.specs.Laws.{IsPlain}
 use Rattle.hm_tree.specs.Tokens.{Seen, doctype, start_tag, end_tag, slice, points, comment}
 use Rattle.hm_construction_laws.specs.Steps.{Construction}
-use Rattle.hm_construction_laws.specs.Closing.{is_behind_body, closed_from}
+use Rattle.hm_construction_laws.specs.Closing.{is_after_body, closed_from}
 use Rattle.hm_construction_laws.specs.Trees.{Outcome, refused_by, after_events, over, tree_from}
 use Rattle.hm_lexer.specs.Reading.{Reading, text_of}
 use Rattle.hm_insertion.specs.Building.{Building}
@@ -24,7 +24,7 @@ use Rattle.hm_construction_laws.specs.Weights.{weight, load, load_size}
 -- why there is no tree; lack of memory has no cause in the page
 abbrev pub IsRefusedAs : Outcome → Refused → Type 0
 IsRefusedAs outcome (answers.Page rule at) = outcome ≡ refused_by rule at
-IsRefusedAs outcome answers.Memory = Unit {0}
+IsRefusedAs outcome answers.OutOfMemory = Unit {0}
 
 -- what was built of the first `read` bytes of a text
 pub record IsWithin (read : ℕ) (w : List Event) (st : Construction) : Type 0 where
@@ -79,7 +79,7 @@ closed_left r b = closed_from r.names (place_of r.source) 0 r.at b.state (drop r
 
 -- the place of a token after which body is closed
 abbrev pub closed_here : Building → Source → ℕ → Option ℕ
-closed_here after page from = if is_behind_body after.state.insertion_mode then Some (place_of page from) else None
+closed_here after page from = if is_after_body after.state.insertion_mode then Some (place_of page from) else None
 
 -- the first of two places
 abbrev pub first_of : Option ℕ → Option ℕ → Option ℕ
@@ -93,12 +93,12 @@ pub record ClosesAt (old : Reading) (b : Building) (from : ℕ) (new : Reading) 
 
 -- where body isn't closed yet, it isn't closed by the token either
 pub record StaysOpen (old : Reading) (b : Building) (new : Reading) (after : Building) : Type 0 where
-  pub open_still : is_behind_body after.state.insertion_mode ≡ false
+  pub open_still : is_after_body after.state.insertion_mode ≡ false
   pub is : closed_left old b ≡ closed_left new after
 
 -- where no place is known at which body is closed, it is open still
 abbrev pub KnowsClosed : Option ℕ → Building → Type 0
-KnowsClosed closed b = closed ≡ None → is_behind_body b.state.insertion_mode ≡ false
+KnowsClosed closed b = closed ≡ None → is_after_body b.state.insertion_mode ≡ false
 
 -- The place where body is closed is known by now, or it is closed in what is left.
 pub record ClosesOn (before : Option ℕ) (old : Reading) (b : Building) (by_now : Option ℕ) (new : Reading) (after : Building) : Type 0 where
@@ -119,14 +119,14 @@ pub record GoesOn (old : Reading) (b : Building) (new : Reading) (after : Buildi
 -- what a turn has done
 abbrev pub IsTurned : Taken → Reading → Building → Reading → Building → Type 0
 IsTurned turns.Over old b new after = IsRead old b × (new ≡ old) × (after ≡ b) × (closed_left old b ≡ None)
-IsTurned turns.Other old b new after = GoesOn old b new after × (is_behind_body b.state.insertion_mode ≡ false → StaysOpen old b new after)
+IsTurned turns.Other old b new after = GoesOn old b new after × (is_after_body b.state.insertion_mode ≡ false → StaysOpen old b new after)
 IsTurned (turns.EndTag from) old b new after = GoesOn old b new after × ClosesAt old b from new after
 
 -- the refusal that a fault gives, and how far after its token's first byte it is
 abbrev pub answer_of : BuildFault → ℕ → Refused
-answer_of (faults.Rule rule behind) at = answers.Page rule at
-answer_of faults.Memory at = answers.Memory
+answer_of (faults.Rule rule offset) at = answers.Page rule at
+answer_of faults.OutOfMemory at = answers.OutOfMemory
 
 abbrev pub span_of : BuildFault → ℕ
-span_of (faults.Rule rule behind) = behind
-span_of faults.Memory = 0
+span_of (faults.Rule rule offset) = offset
+span_of faults.OutOfMemory = 0

@@ -4,7 +4,7 @@ ghost use Rattle.std.specs.Option.{option_or};
 ghost use Rattle.hm_base.specs.Source.{byte_of};
 ghost use Rattle.hm_elements.specs.Settled.{Settled};
 ghost use Rattle.hm_construction_laws.specs.Trees.{built, mode_of};
-ghost use Rattle.hm_feed.specs.Pieces.{HasFed, before_text};
+ghost use Rattle.hm_decoder.specs.Pieces.{HasFed, before_text};
 ghost use Rattle.hm_lexer.specs.Ready.{ready};
 ghost use Rattle.hm_base.specs.Source.{PlacedByte};
 ghost use Rattle.hm_build.specs.Feeding as feeding;
@@ -13,8 +13,8 @@ ghost use Rattle.hm_build.specs.Parsing.{IsRefusedAs, IsWithin, left_tree, reads
 
 use crate::page::parse_rest;
 use crate::ready::part_turns;
-use hm_base::{Memory, OUTPUT_LIMIT, Refused, Rule, SourceText};
-use hm_feed::TextPieces;
+use hm_base::{OUTPUT_LIMIT, OutOfMemory, Refused, Rule, SourceText};
+use hm_decoder::TextPieces;
 use hm_insertion::TreeBuilder;
 use hm_lexer::Lexer;
 use hm_refs::Table;
@@ -76,14 +76,14 @@ fn take_end(
     ensures before { OnOk result (before_text text.old.source ≤ before_text text.new.source) }
     ensures err { IfErr result (EndsAs text.old text.new refused) }
     ensures sound { OnOk result (is_broken ≡ false) }
-    ensures broken { is_broken ≡ true → result ≡ Err Refused.Memory }
+    ensures broken { is_broken ≡ true → result ≡ Err Refused.OutOfMemory }
 {
     if is_broken {
-        return Err(Refused::Memory);
+        return Err(Refused::OutOfMemory);
     }
     match text.finish() {
         Ok(()) => {}
-        Err(Memory) => return Err(Refused::Memory),
+        Err(OutOfMemory) => return Err(Refused::OutOfMemory),
     }
     match text.fault().or(refused) {
         Some((rule, at)) => Err(Refused::Page { rule, at }),
@@ -142,7 +142,7 @@ impl<'t> Model for Builder<'t> {
 
 impl<'t> Builder<'t> {
     /// Nothing has come yet.
-    pub fn new(alloc: Global, table: &'t Table, limit: u32) -> Result<Builder<'t>, Memory>
+    pub fn new(alloc: Global, table: &'t Table, limit: u32) -> Result<Builder<'t>, OutOfMemory>
         requires { limit ≤ OUTPUT_LIMIT }
         ensures read { IfOk result (λ builder. HasRead builder []) }
         ensures names { IfOk result (λ builder. builder.names ≡ table.now.entries) }
@@ -152,7 +152,7 @@ impl<'t> Builder<'t> {
         let text = TextPieces::new(alloc, limit);
         let tree = match TreeBuilder::new(alloc) {
             Ok(tree) => tree,
-            Err(Memory) => return Err(Memory),
+            Err(OutOfMemory) => return Err(OutOfMemory),
         };
         Ok(Builder {
             text,
@@ -168,7 +168,7 @@ impl<'t> Builder<'t> {
     /// Takes the next bytes of the page. What is ready of them is taken by `scan`.
     ///
     /// Where memory is refused, each later call is refused too.
-    pub fn gather(&mut self, piece: &[u8]) -> Result<(), Memory>
+    pub fn gather(&mut self, piece: &[u8]) -> Result<(), OutOfMemory>
         ensures come { OnOk result ((fed : List ℕ) → HasCome self.old fed → HasCome self.new (fed ++ piece.now)) }
         ensures building { self.new.building ≡ self.old.building }
         ensures refused { self.new.refused ≡ self.old.refused }
@@ -178,7 +178,7 @@ impl<'t> Builder<'t> {
         ensures err { OnErr result (self.new.is_broken ≡ true) }
     {
         if self.is_broken {
-            return Err(Memory);
+            return Err(OutOfMemory);
         }
         self.is_broken = true;
         self.text.feed(piece)?;
@@ -194,7 +194,7 @@ impl<'t> Builder<'t> {
     /// Takes all that is ready of the bytes that came, and lets its text go.
     ///
     /// Where memory is refused, each later call is refused too.
-    pub fn scan(&mut self) -> Result<(), Memory>
+    pub fn scan(&mut self) -> Result<(), OutOfMemory>
         ensures read { OnOk result ((fed : List ℕ) → HasCome self.old fed → HasRead self.new fed) }
         ensures names { self.new.names ≡ self.old.names }
         ensures limit { self.new.pieces.limit ≡ self.old.pieces.limit }
@@ -202,7 +202,7 @@ impl<'t> Builder<'t> {
         ensures err { OnErr result (self.new.is_broken ≡ true) }
     {
         if self.is_broken {
-            return Err(Memory);
+            return Err(OutOfMemory);
         }
         if self.refused.is_some() || self.text.fault().is_some() {
             return Ok(());
@@ -226,14 +226,14 @@ impl<'t> Builder<'t> {
                 self.is_broken = false;
                 return Ok(());
             }
-            Err(Refused::Memory) => return Err(Memory),
+            Err(Refused::OutOfMemory) => return Err(OutOfMemory),
         }
     }
 
     /// Takes the next bytes of the page, and all that is ready of those that came.
     ///
     /// Where memory is refused, each later call is refused too.
-    pub fn feed(&mut self, piece: &[u8]) -> Result<(), Memory>
+    pub fn feed(&mut self, piece: &[u8]) -> Result<(), OutOfMemory>
         ensures read { OnOk result ((fed : List ℕ) → HasCome self.old fed → HasRead self.new (fed ++ piece.now)) }
         ensures names { self.new.names ≡ self.old.names }
         ensures limit { self.new.pieces.limit ≡ self.old.pieces.limit }
@@ -242,7 +242,7 @@ impl<'t> Builder<'t> {
     {
         match self.gather(piece) {
             Ok(()) => self.scan(),
-            Err(Memory) => Err(Memory),
+            Err(OutOfMemory) => Err(OutOfMemory),
         }
     }
 
@@ -253,7 +253,7 @@ impl<'t> Builder<'t> {
         ensures built { IfOk result (λ tree. (page : List ℕ) → HasCome self.entry page → page_outcome_within self.entry.pieces.limit self.entry.names page ≡ built tree) }
         ensures settled { IfOk result (λ tree. (page : List ℕ) → HasCome self.entry page → Settled tree) }
         ensures refused { IfErr result (λ refused. (page : List ℕ) → HasCome self.entry page → IsRefusedAs (page_outcome_within self.entry.pieces.limit self.entry.names page) refused) }
-        ensures broken { self.entry.is_broken ≡ true → result ≡ Err Refused.Memory }
+        ensures broken { self.entry.is_broken ≡ true → result ≡ Err Refused.OutOfMemory }
     {
         every_table(self.table);
         let Builder {

@@ -3,16 +3,16 @@ ghost use Rattle.std.specs.Prelude.{◌≡◌, false, IfOk, OnOk, IfErr};
 ghost use Rattle.hm_elements.specs.Settled.{Settled};
 ghost use Rattle.hm_refs.specs.Tables.{IsTable};
 ghost use Rattle.hm_token_laws.specs.Laws.{SoundNames};
-ghost use Rattle.hm_construction_laws.specs.Closing.{closed_of_source, is_behind_body};
+ghost use Rattle.hm_construction_laws.specs.Closing.{closed_of_source, is_after_body};
 ghost use Rattle.hm_construction_laws.specs.Trees.{built, tree_of_source};
-ghost use Rattle.hm_feed.specs.Pieces.{before_text};
+ghost use Rattle.hm_decoder.specs.Pieces.{before_text};
 ghost use Rattle.hm_build.specs.Feeding.{IsPartway};
 ghost use Rattle.hm_build.specs.Parsing.{IsParsing, IsRead, IsRefusedAs, IsTurned, IsWithin, closed_left, left_tree, reads, taken_by};
 
 use crate::places::{closed_by, first_closed, refusal};
 use crate::ready::part_turns;
 use crate::tokens::{mode, take};
-use hm_base::{Memory, Refused, SourceText};
+use hm_base::{OutOfMemory, Refused, SourceText};
 use hm_insertion::TreeBuilder;
 use hm_lexer::Lexer;
 use hm_refs::Table;
@@ -78,7 +78,7 @@ fn turns<'a>(
     requires parsing { IsParsing lexer.old builder.old }
     ensures ok { OnOk result (IsRead lexer.new builder.new) }
     ensures tree { OnOk result (left_tree lexer.old builder.old ≡ left_tree lexer.new builder.new) }
-    ensures closed { is_behind_body builder.old.state.insertion_mode ≡ false → IfOk result (λ closed. closed_left lexer.old builder.old ≡ closed) }
+    ensures closed { is_after_body builder.old.state.insertion_mode ≡ false → IfOk result (λ closed. closed_left lexer.old builder.old ≡ closed) }
     ensures names { OnOk result (lexer.new.names ≡ lexer.old.names) }
     ensures same { OnOk result (lexer.new.source ≡ lexer.old.source) }
     ensures err { IfErr result (IsRefusedAs (left_tree lexer.old builder.old)) }
@@ -131,7 +131,7 @@ fn read_rest<'a>(
     requires partway { IsPartway lexer.old builder.old }
     ensures read { OnOk result (IsRead lexer.new builder.new) }
     ensures tree { OnOk result (left_tree lexer.old builder.old ≡ left_tree lexer.new builder.new) }
-    ensures closed { is_behind_body builder.old.state.insertion_mode ≡ false → IfOk result (λ closed. closed_left lexer.old builder.old ≡ closed) }
+    ensures closed { is_after_body builder.old.state.insertion_mode ≡ false → IfOk result (λ closed. closed_left lexer.old builder.old ≡ closed) }
     ensures same { OnOk result (lexer.new.source ≡ lexer.old.source) }
     ensures err { IfErr result (IsRefusedAs (left_tree lexer.old builder.old)) }
 {
@@ -159,7 +159,7 @@ fn parse_on(
 ) -> Result<(Tree, Option<u32>), Refused>
     requires { IsWithin (before_text text.now) builder.walk builder.state }
     ensures built { IfOk result (λ parsed. left_tree (reads table.now.entries text.now) builder ≡ built parsed.0) }
-    ensures closed { is_behind_body builder.state.insertion_mode ≡ false → IfOk result (λ parsed. closed_left (reads table.now.entries text.now) builder ≡ parsed.1) }
+    ensures closed { is_after_body builder.state.insertion_mode ≡ false → IfOk result (λ parsed. closed_left (reads table.now.entries text.now) builder ≡ parsed.1) }
     ensures refused { IfErr result (IsRefusedAs (left_tree (reads table.now.entries text.now) builder)) }
 {
     every_table(table);
@@ -181,7 +181,7 @@ pub(crate) fn parse_rest(
 ) -> Result<(Tree, Option<u32>), Refused>
     requires { IsWithin (before_text text.now) builder.walk builder.state }
     ensures built { IfOk result (λ parsed. left_tree (reads table.now.entries text.now) builder ≡ built parsed.0) }
-    ensures closed { is_behind_body builder.state.insertion_mode ≡ false → IfOk result (λ parsed. closed_left (reads table.now.entries text.now) builder ≡ parsed.1) }
+    ensures closed { is_after_body builder.state.insertion_mode ≡ false → IfOk result (λ parsed. closed_left (reads table.now.entries text.now) builder ≡ parsed.1) }
     ensures refused { IfErr result (IsRefusedAs (left_tree (reads table.now.entries text.now) builder)) }
 {
     let mut tag = tag;
@@ -205,7 +205,7 @@ pub fn parse_closed(
     let _plain = text.text();
     match TreeBuilder::new(alloc) {
         Ok(builder) => parse_rest(alloc, text, table, builder, Tag::new(alloc)),
-        Err(Memory) => Err(Refused::Memory),
+        Err(OutOfMemory) => Err(Refused::OutOfMemory),
     }
 }
 

@@ -12,11 +12,11 @@ pub(crate) fn refusal(text: &SourceText, fault: BuildFault, at: u32) -> Refused
 {
     let _text = text.text();
     match fault {
-        BuildFault::Rule { rule, behind } => Refused::Page {
+        BuildFault::Rule { rule, offset } => Refused::Page {
             rule,
-            at: text.place_of(at + behind),
+            at: text.place_of(at + offset),
         },
-        BuildFault::Memory => Refused::Memory,
+        BuildFault::OutOfMemory => Refused::OutOfMemory,
     }
 }
 
@@ -32,7 +32,7 @@ pub(crate) fn closed_by(
     requires { from ≤ length text.now.placed }
     ensures { result ≡ first_of closed (closed_here builder.now text.now from) }
 {
-    if builder.is_behind_body() && closed.is_none() {
+    if builder.is_after_body() && closed.is_none() {
         Some(text.place_of(from))
     } else {
         closed

@@ -1,7 +1,7 @@
 //! One case: words and files, and how the run should end.
 use crate::escapes::bytes_of;
 use crate::faults::{ends_at_each_fault, ends_at_each_tear};
-use hm_base::{Memory, Word};
+use hm_base::{OutOfMemory, OwnedText};
 use hm_minify::{Status, run};
 use hm_store::{MemSink, MemStore};
 use std::alloc::{AllocError, Global};
@@ -27,7 +27,7 @@ struct Prefixes {
 #[derive(Drop)]
 pub struct Case {
     name: String,
-    words: Vec<Word>,
+    words: Vec<OwnedText>,
     // the files before the run
     files: Vec<NamedFile>,
     store: MemStore,
@@ -59,7 +59,7 @@ pub enum CaseVerdict {
 }
 
 /// The error of a call for which memory was refused.
-pub fn no_memory(_memory: Memory) -> io::Error {
+pub fn no_memory(_memory: OutOfMemory) -> io::Error {
     io::Error::from(ErrorKind::OutOfMemory)
 }
 
@@ -135,7 +135,7 @@ impl Case {
     fn take_words(&mut self, alloc: Global, text: &str) -> io::Result<()> {
         for word in text.split(' ') {
             let text = String::from_str(alloc, word)?;
-            self.words.push(Word { text })?;
+            self.words.push(OwnedText { text })?;
         }
         Ok(())
     }
@@ -287,7 +287,7 @@ impl Case {
 
     /// The words of the case, with `check` in place of `minify`, or `checkfragment` in place of `fragment`. Where the tree is given as
     /// JSON the page is `copy`, and nothing is rewritten or put into order.
-    fn checking(&self, alloc: Global) -> io::Result<Vec<Word>> {
+    fn checking(&self, alloc: Global) -> io::Result<Vec<OwnedText>> {
         let of_json = self.is_of_json();
         let mut words = Vec::new(alloc);
         for word in &self.words {
@@ -302,7 +302,7 @@ impl Case {
                 _ => text,
             };
             let text = String::from_str(alloc, text)?;
-            words.push(Word { text })?;
+            words.push(OwnedText { text })?;
         }
         Ok(words)
     }
@@ -323,17 +323,17 @@ impl Case {
     }
 
     /// The words of the case without `--sparse`, or with it where they don't have it.
-    fn in_other_format(&self, alloc: Global) -> io::Result<Vec<Word>> {
+    fn in_other_format(&self, alloc: Global) -> io::Result<Vec<OwnedText>> {
         let mut words = Vec::new(alloc);
         for word in &self.words {
             if word.text.as_str() != "--sparse" {
                 let text = String::from_str(alloc, word.text.as_str())?;
-                words.push(Word { text })?;
+                words.push(OwnedText { text })?;
             }
         }
         if words.len() == self.words.len() {
             let text = String::from_str(alloc, "--sparse")?;
-            words.push(Word { text })?;
+            words.push(OwnedText { text })?;
         }
         Ok(words)
     }

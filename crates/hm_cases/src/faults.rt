@@ -1,6 +1,6 @@
 //! The run of a case over stores and sinks that fail: at each call in turn, and at puts that are torn.
 use crate::case::{Case, no_memory};
-use hm_base::Memory;
+use hm_base::OutOfMemory;
 use hm_store::{MemSink, MemStore, Sink, Store};
 use std::alloc::Global;
 use std::io;
@@ -16,7 +16,7 @@ const SINK_FAULT: u8 = 6;
 const MOST_CALLS: u32 = 64;
 
 /// An answer whose error is want of memory.
-fn kept<T>(answer: Result<T, Memory>) -> io::Result<T> {
+fn kept<T>(answer: Result<T, OutOfMemory>) -> io::Result<T> {
     match answer {
         Ok(value) => Ok(value),
         Err(memory) => Err(no_memory(memory)),

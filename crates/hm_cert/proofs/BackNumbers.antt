@@ -39,12 +39,12 @@ front_digit : (d : ℕ) (digits : List ℕ) → digits_value 10 (d ∷ digits) �
 front_digit d digits = front_zero d digits ∙ value_after (digit_value d) digits
 
 -- the digits after a place, their number and the next power of 10
-pub record IsBehind (text : List ℕ) (at number power : ℕ) : Type 0 where
+pub record AreDigitsAfter (text : List ℕ) (at number power : ℕ) : Type 0 where
   pub back : IsBackTo text at number
   pub next : power ≡ 10 ^ (length text - at)
 
-pub none_behind : (text : List ℕ) → IsBehind text (length text) 0 1
-none_behind text =
+pub none_follows : (text : List ℕ) → AreDigitsAfter text (length text) 0 1
+none_follows text =
     let none : drop (length text) text ≡ [] = drop-length text in
     record {
       back = record { within = omega arith; few = omega arith; digits = subst (AllDigits 10) (sym none) tt; value = ap (digits_value 10) (sym none) };
@@ -52,8 +52,8 @@ none_behind text =
     }
 
 -- sums with one more digit are small
-pub small_behind : (text : List ℕ) (at number power : ℕ) → IsBehind text at number power → length text < at + 18 → (number < power) × (power ≤ 10 ^ 17)
-small_behind text at number power h few =
+pub small_after : (text : List ℕ) (at number power : ℕ) → AreDigitsAfter text at number power → length text < at + 18 → (number < power) × (power ≤ 10 ^ 17)
+small_after text at number power h few =
     let lt : digits_value 10 (drop at text) < 10 ^ length (drop at text) = digits_value-lt 10 (drop at text) h.back.digits in
     let size : length (drop at text) ≡ length text - at = length-drop at text in
     let same : 10 ^ length (drop at text) ≡ power = ap (λ n. 10 ^ n) size ∙ sym h.next in
@@ -63,9 +63,9 @@ small_behind text at number power h few =
 pub sum_fits : (number digit power : ℕ) → digit ≤ 9 → number < power → power ≤ 10 ^ 17 → number + digit * power < 2 ^ 64
 sum_fits number digit power small below most = let all : digit * power < 10 * (10 ^ 17 + 1) = mul-lt digit power 10 (10 ^ 17 + 1) (omega arith) (omega arith) in omega (arith, all)
 
-pub behind_more : (text : List ℕ) (at number power digit : ℕ) → 0 < at → length text < at + 18 → IsBehind text at number power → true ≡ is_ascii_digit (get_or text (at - 1) 0) → digit ≡ get_or text (at - 1) 0 - 48
-    → (digit ≤ 9) × IsBehind text (at - 1) (number + digit * power) (power * 10)
-behind_more text at number power digit some few h e is =
+pub after_more : (text : List ℕ) (at number power digit : ℕ) → 0 < at → length text < at + 18 → AreDigitsAfter text at number power → true ≡ is_ascii_digit (get_or text (at - 1) 0) → digit ≡ get_or text (at - 1) 0 - 48
+    → (digit ≤ 9) × AreDigitsAfter text (at - 1) (number + digit * power) (power * 10)
+after_more text at number power digit some few h e is =
     let byte : ℕ = get_or text (at - 1) 0 in
     let range = digit_range byte e in
     let value : digit_value byte ≡ digit = digit_is byte range.0 range.1 ∙ sym is in
@@ -123,12 +123,12 @@ last_word text part front at price inside cut last =
 -- ---- The prices of a line
 
 -- a text has prices between two places, each after a space; those that were read are listed with the last one first
-pub record AreBehind (text : List ℕ) (front end : ℕ) (numbers : List ℕ) : Type 0 where
+pub record ArePricesBetween (text : List ℕ) (front end : ℕ) (numbers : List ℕ) : Type 0 where
   pub within : front ≤ end
   pub prices : ArePrices (map told (reverse numbers))
   pub written : slice_range text front end ≡ more_prices (map told (reverse numbers))
 
-pub none_read : (text : List ℕ) (end : ℕ) → AreBehind text end end []
+pub none_read : (text : List ℕ) (end : ℕ) → ArePricesBetween text end end []
 none_read text end = record {
   within = omega arith;
   prices = tt;
@@ -144,7 +144,7 @@ range_parts text at front end low high =
     ∙ ap (λ x. slice_range text at front ++ take (end - front) x) (drop-drop (front - at) at text ∙ ap (λ n. drop n text) there)
 
 -- from one more price on
-price_front : (text part : List ℕ) (front end at price : ℕ) (numbers : List ℕ) → end < length text → part ≡ take front text → AreBehind text front end numbers → IsLastPrice part at price
+price_front : (text part : List ℕ) (front end at price : ℕ) (numbers : List ℕ) → end < length text → part ≡ take front text → ArePricesBetween text front end numbers → IsLastPrice part at price
     → (at ≤ front) × (slice_range text at end ≡ price_text (told price) ++ more_prices (map told (reverse numbers)))
 price_front text part front end at price numbers inside cut h last =
     let low : at ≤ front = omega (arith, last.within, ap length cut, length-take front text) in
@@ -154,8 +154,8 @@ price_front text part front end at price numbers inside cut h last =
 turned_push : (numbers : List ℕ) (price : ℕ) → map told (reverse (numbers ++ price ∷ [])) ≡ told price ∷ map told (reverse numbers)
 turned_push numbers price = ap (map told) (reverse-append numbers (price ∷ []))
 
-pub price_more : (text part : List ℕ) (front end at price : ℕ) (numbers more : List ℕ) → end < length text → part ≡ take front text → AreBehind text front end numbers → IsLastPrice part at price → 0 < at → get_or text (at - 1) 0 ≡ 32
-    → more ≡ numbers ++ price ∷ [] → AreBehind text (at - 1) end more
+pub price_more : (text part : List ℕ) (front end at price : ℕ) (numbers more : List ℕ) → end < length text → part ≡ take front text → ArePricesBetween text front end numbers → IsLastPrice part at price → 0 < at → get_or text (at - 1) 0 ≡ 32
+    → more ≡ numbers ++ price ∷ [] → ArePricesBetween text (at - 1) end more
 price_more text part front end at price numbers more inside cut h last some space is =
     let found = price_front text part front end at price numbers inside cut h last in
     let row : map told (reverse more) ≡ told price ∷ map told (reverse numbers) = ap (λ ns. map told (reverse ns)) is ∙ turned_push numbers price in
@@ -169,7 +169,7 @@ price_more text part front end at price numbers more inside cut h last some spac
       written = range_parts text (at - 1) at end (omega arith) (omega (arith, found.0, h.within)) ∙ (λ i. front_one i ++ found.1 i) ∙ ap more_prices (sym row);
     }
 
-pub price_first : (text part : List ℕ) (front end at price : ℕ) (numbers more turned : List ℕ) → end < length text → part ≡ take front text → AreBehind text front end numbers → IsLastPrice part at price → (0 < at → get_or text (at - 1) 0 ≡ 10)
+pub price_first : (text part : List ℕ) (front end at price : ℕ) (numbers more turned : List ℕ) → end < length text → part ≡ take front text → ArePricesBetween text front end numbers → IsLastPrice part at price → (0 < at → get_or text (at - 1) 0 ≡ 10)
     → more ≡ numbers ++ price ∷ [] → turned ≡ reverse more → IsShortRow text end (map told turned) at
 price_first text part front end at price numbers more turned inside cut h last starts is t =
     let found = price_front text part front end at price numbers inside cut h last in
@@ -180,7 +180,7 @@ price_first text part front end at price numbers more turned inside cut h last s
       start = record {
         within = omega (arith, found.0, h.within);
         none = no_feed text (map told turned) at end inside (omega (arith, found.0, h.within)) prices written;
-        behind = λ some k e. let back : at - 1 ≡ k = omega (arith, e) in subst (λ n. get_or text n 0 ≡ 10) back (starts some);
+        after = λ some k e. let back : at - 1 ≡ k = omega (arith, e) in subst (λ n. get_or text n 0 ≡ 10) back (starts some);
       };
       some = omega (arith, ap length row);
       prices = prices;

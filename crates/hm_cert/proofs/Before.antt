@@ -12,8 +12,8 @@ use Rattle.hm_cert.specs.Reading.{IsNext, IsPassed, pieces, line_row, and_row, r
 use Rattle.hm_cert.specs.Short.{IsShortRow}
 use Rattle.hm_cert.specs.declared.kept.RowPlace.{RowPlace}
 use Rattle.hm_cert.specs.declared.lines.CertificateFault.{CertificateFault}
-use Rattle.hm_cert.specs.declared.lines.CertificateFault.TheVariants.{TooLong, BadLine, Memory}
-use Rattle.hm_cert.proofs.LineRows.{rows_behind, row_more, no_row_more, bad_more}
+use Rattle.hm_cert.specs.declared.lines.CertificateFault.TheVariants.{TooLong, BadLine, OutOfMemory}
+use Rattle.hm_cert.proofs.LineRows.{rows_after, row_more, no_row_more, bad_more}
 use Rattle.hm_cert.proofs.Read as read
 use Rattle.hm_cert.proofs.Written.{is_free, free_parts, free_row, line_back, rows_back}
 
@@ -73,15 +73,15 @@ lines_end (row ∷ rows) j e = by_more (row_lines rows) refl (lines_end rows)
     all = length-append front (row_lines rows)
 
     by_more : (more : List ℕ) → row_lines rows ≡ more → ((i : ℕ) → i + 1 ≡ length (row_lines rows) → get_or (row_lines rows) i 0 ≡ 10) → get_or (front ++ row_lines rows) j 0 ≡ 10
-    by_more [] f behind =
+    by_more [] f after =
         let none : length (row_lines rows) ≡ 0 = ap length f in
         let last : j ≡ length (row_text row) = omega (arith, e, own, all, none) in
         get_or_append_left front (row_lines rows) 0 j (omega (arith, own, last)) ∙ ap (λ n. get_or front n 0) last ∙ get_or-append_seam (row_text row) 10 [] 0
-    by_more (b ∷ more) f behind =
+    by_more (b ∷ more) f after =
         let some : length (row_lines rows) ≡ suc (length more) = ap length f in
         let at : j ≡ length front + (j - length front) = omega (arith, e, all, some) in
         ap (λ n. get_or (front ++ row_lines rows) n 0) at ∙ get_or-append-add front (row_lines rows) (j - length front) 0
-        ∙ behind (j - length front) (omega (arith, e, all, some))
+        ∙ after (j - length front) (omega (arith, e, all, some))
 
 -- no byte of a free text is the mark
 pub free_at : (mark : ℕ) (text : List ℕ) (j : ℕ) → is_free mark text ≡ true → j < length text → get_or text j 0 ≡ mark → ⊥
@@ -102,7 +102,7 @@ line_found before line more end at e ends free h = by_low (nat_lt at (length bef
         let over : length before < at = ltb-true _ _ t in
         let j : ℕ = at - length before - 1 in
         let there : j < length line = omega (arith, over, e, h.within) in
-        let mark : get_or text (length before + j) 0 ≡ 10 = h.behind (omega (arith, over)) (length before + j) (omega (arith, over)) in
+        let mark : get_or text (length before + j) 0 ≡ 10 = h.after (omega (arith, over)) (length before + j) (omega (arith, over)) in
         absurd (free_at 10 line j free there (sym (get_or-append-add before (line ++ 10 ∷ more) j 0 ∙ get_or_append_left line (10 ∷ more) 0 j there) ∙ mark))
     by_high false t low = omega (arith, ltb-false _ _ t)
 
@@ -176,7 +176,7 @@ end_place text rows lines = ap length (sym lines) ∙ ap (λ r. length (row_line
 pub record AreDone (all left : Result (List Row) ℕ) (count : ℕ) : Type 0 where
   pub rows : List Row
   pub counted : count ≡ length rows
-  pub are : rows_behind rows left ≡ all
+  pub are : rows_after rows left ≡ all
 
 pub none_done : (all : Result (List Row) ℕ) → AreDone all all 0
 none_done (Ok rows) = record { rows = []; counted = refl; are = refl }
@@ -186,13 +186,13 @@ one_done : (all left next : Result (List Row) ℕ) (row : Row) (count : ℕ) →
 one_done all left next row count h e = record {
   rows = h.rows ++ row ∷ [];
   counted = omega (arith, h.counted, length-append h.rows (row ∷ []));
-  are = row_more h.rows row next ∙ ap (rows_behind h.rows) (sym e) ∙ h.are;
+  are = row_more h.rows row next ∙ ap (rows_after h.rows) (sym e) ∙ h.are;
 }
 
 pub all_done : (all left : Result (List Row) ℕ) (count : ℕ) → AreDone all left count → left ≡ Ok [] → AreSoMany all count
 all_done all left count h e = record {
   rows = h.rows;
-  are = sym h.are ∙ ap (rows_behind h.rows) e ∙ no_row_more h.rows;
+  are = sym h.are ∙ ap (rows_after h.rows) e ∙ no_row_more h.rows;
   counted = h.counted;
 }
 
@@ -209,7 +209,7 @@ read_passed left next row (Ok true) h = (row, h)
 read_passed left next row (Ok false) h = h
 read_passed left next row (Err (BadLine line)) h = h
 read_passed left next row (Err TooLong) h = h
-read_passed left next row (Err Memory) h = tt
+read_passed left next row (Err OutOfMemory) h = tt
 
 -- ---- A row of prices of few digits
 

@@ -4,26 +4,26 @@ use Rattle.std.specs.Prelude.{Option, Some, None, option_map, Result, Ok, Err}
 use Rattle.std.proofs.lemmas.List.{append-nil}
 use Rattle.hm_base.specs.declared.plain.Format.{Format}
 use Rattle.hm_cert.specs.Certificate.{Row}
-use Rattle.hm_cert.specs.Reading.{pieces, word_price, line_row, line_format, line_rules, and_row, with_row, rows_in, given, given_lines, behind_rules}
+use Rattle.hm_cert.specs.Reading.{pieces, word_price, line_row, line_format, line_rules, and_row, with_row, rows_in, given, given_lines, after_rules}
 use Rattle.hm_cert.proofs.Pieces.{one_piece}
 
 -- prices before a row
-abbrev pub behind : Row → Option Row → Option Row
-behind done row = option_map (λ more. done ++ more) row
+abbrev pub after : Row → Option Row → Option Row
+after done row = option_map (λ more. done ++ more) row
 
 -- one more price before the rest of a line
-pub price_more : (done : Row) (line word more : List ℕ) (price : Option ℕ) → pieces 32 line ≡ word ∷ pieces 32 more → word_price word ≡ Some price → behind (done ++ price ∷ []) (line_row more) ≡ behind done (line_row line)
+pub price_more : (done : Row) (line word more : List ℕ) (price : Option ℕ) → pieces 32 line ≡ word ∷ pieces 32 more → word_price word ≡ Some price → after (done ++ price ∷ []) (line_row more) ≡ after done (line_row line)
 price_more done line word more price cut is = rw (cut, is) (by_case (line_row more))
   where
-    by_case : (o : Option Row) → behind (done ++ price ∷ []) o ≡ behind done (option_map (λ row. price ∷ row) o)
+    by_case : (o : Option Row) → after (done ++ price ∷ []) o ≡ after done (option_map (λ row. price ∷ row) o)
     by_case None = refl
     by_case (Some row) = ap Some (append_assoc done (price ∷ []) row)
 
-pub price_last : (done : Row) (line : List ℕ) (price : Option ℕ) → pieces 32 line ≡ line ∷ [] → word_price line ≡ Some price → behind done (line_row line) ≡ Some (done ++ price ∷ [])
+pub price_last : (done : Row) (line : List ℕ) (price : Option ℕ) → pieces 32 line ≡ line ∷ [] → word_price line ≡ Some price → after done (line_row line) ≡ Some (done ++ price ∷ [])
 price_last done line price cut is = rw (cut, is) refl
 
 -- a word that is no price
-pub no_price_more : (done : Row) (line word : List ℕ) (words : List (List ℕ)) → pieces 32 line ≡ word ∷ words → word_price word ≡ None → behind done (line_row line) ≡ None
+pub no_price_more : (done : Row) (line word : List ℕ) (words : List (List ℕ)) → pieces 32 line ≡ word ∷ words → word_price word ≡ None → after done (line_row line) ≡ None
 no_price_more done line word words cut is = rw (cut, is) refl
 
 -- the first line of a text, and the lines after it
@@ -60,20 +60,20 @@ bad_first text line more cut is = let next = one_piece 10 more in rw (cut, next.
 pub no_second : (text line more : List ℕ) (format : Format) → pieces 10 text ≡ line ∷ pieces 10 more → line_format line ≡ Some format → pieces 10 more ≡ more ∷ [] → given text ≡ Err 2
 no_second text line more format cut is ends = rw (cut, ends, is) refl
 
-pub by_second : (text line more second rest : List ℕ) (format : Format) → pieces 10 text ≡ line ∷ pieces 10 more → line_format line ≡ Some format → pieces 10 more ≡ second ∷ pieces 10 rest → given text ≡ behind_rules format (pieces 10 rest) (line_rules second)
+pub by_second : (text line more second rest : List ℕ) (format : Format) → pieces 10 text ≡ line ∷ pieces 10 more → line_format line ≡ Some format → pieces 10 more ≡ second ∷ pieces 10 rest → given text ≡ after_rules format (pieces 10 rest) (line_rules second)
 by_second text line more second rest format cut is again = let next = one_piece 10 rest in rw (cut, again, is, next.1.1) refl
 
 -- rows before those that are left
-abbrev pub rows_behind : List Row → Result (List Row) ℕ → Result (List Row) ℕ
-rows_behind done (Ok rows) = Ok (done ++ rows)
-rows_behind done (Err bad) = Err bad
+abbrev pub rows_after : List Row → Result (List Row) ℕ → Result (List Row) ℕ
+rows_after done (Ok rows) = Ok (done ++ rows)
+rows_after done (Err bad) = Err bad
 
-pub row_more : (done : List Row) (row : Row) (left : Result (List Row) ℕ) → rows_behind (done ++ row ∷ []) left ≡ rows_behind done (and_row row left)
+pub row_more : (done : List Row) (row : Row) (left : Result (List Row) ℕ) → rows_after (done ++ row ∷ []) left ≡ rows_after done (and_row row left)
 row_more done row (Ok rows) = ap Ok (append_assoc done (row ∷ []) rows)
 row_more done row (Err bad) = refl
 
-pub no_row_more : (done : List Row) → rows_behind done (Ok []) ≡ Ok done
+pub no_row_more : (done : List Row) → rows_after done (Ok []) ≡ Ok done
 no_row_more done = ap Ok (append-nil done)
 
-pub bad_more : (done : List Row) (left : Result (List Row) ℕ) (bad : ℕ) → left ≡ Err bad → rows_behind done left ≡ Err bad
-bad_more done left bad e = ap (rows_behind done) e
+pub bad_more : (done : List Row) (left : Result (List Row) ℕ) (bad : ℕ) → left ≡ Err bad → rows_after done left ≡ Err bad
+bad_more done left bad e = ap (rows_after done) e

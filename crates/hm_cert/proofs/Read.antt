@@ -7,11 +7,11 @@ use Rattle.std.proofs.lemmas.Slice.Eq.{bytes_eq-Decides}
 use Rattle.std.proofs.lemmas.List.{length-map}
 use Rattle.hm_base.specs.declared.plain.SpellRules.{SpellRules}
 use Rattle.hm_base.specs.declared.plain.Format.{Format}
-use Rattle.hm_base.specs.declared.plain.Format.TheVariants.{One, Two, Three}
+use Rattle.hm_base.specs.declared.plain.Format.TheVariants.{Full, Compact, Sparse}
 use Rattle.hm_cert.specs.declared.certificate.Certificate.{Certificate}
 use Rattle.hm_cert.specs.Certificate.{Row, ArePrices, AreRows, price_text, row_text, row_lines, format_text, rules_text, certificate_text}
 use Rattle.hm_cert.specs.Layout.{told}
-use Rattle.hm_cert.specs.Reading.{pieces, word_price, words_row, line_row, line_format, line_rules, and_row, with_row, lines_rows, rows_in, with_head, behind_rules, behind_format, given_lines, given}
+use Rattle.hm_cert.specs.Reading.{pieces, word_price, words_row, line_row, line_format, line_rules, and_row, with_row, lines_rows, rows_in, with_head, after_rules, after_format, given_lines, given}
 use Rattle.hm_cert.proofs.Pieces.{one_piece}
 use Rattle.hm_cert.proofs.PriceTexts.{price_back}
 use Rattle.hm_cert.proofs.RuleLines as rule
@@ -77,19 +77,19 @@ pub rows_are : (number : ℕ) (text : List ℕ) (rows : List Row) → rows_in nu
 rows_are number text rows h = (rows_back number (pieces 10 text) rows h).1
 
 format_back : (line : List ℕ) (format : Format) → line_format line ≡ Some format → format_text format ≡ line
-format_back line format h = by_one (bytes_eq line (format_text One)) refl h
+format_back line format h = by_one (bytes_eq line (format_text Full)) refl h
   where
-    by_three : (b : Bool) → bytes_eq line (format_text Three) ≡ b → cond b (Some Three) None ≡ Some format → format_text format ≡ line
-    by_three true e h = let is : Three ≡ format = cc in ap format_text (sym is) ∙ sym ((bytes_eq-Decides line (format_text Three)).0 e)
+    by_three : (b : Bool) → bytes_eq line (format_text Sparse) ≡ b → cond b (Some Sparse) None ≡ Some format → format_text format ≡ line
+    by_three true e h = let is : Sparse ≡ format = cc in ap format_text (sym is) ∙ sym ((bytes_eq-Decides line (format_text Sparse)).0 e)
     by_three false e h = absurd (cc)
 
-    by_two : (b : Bool) → bytes_eq line (format_text Two) ≡ b → cond b (Some Two) (cond (bytes_eq line (format_text Three)) (Some Three) None) ≡ Some format → format_text format ≡ line
-    by_two true e h = let is : Two ≡ format = cc in ap format_text (sym is) ∙ sym ((bytes_eq-Decides line (format_text Two)).0 e)
-    by_two false e h = by_three (bytes_eq line (format_text Three)) refl h
+    by_two : (b : Bool) → bytes_eq line (format_text Compact) ≡ b → cond b (Some Compact) (cond (bytes_eq line (format_text Sparse)) (Some Sparse) None) ≡ Some format → format_text format ≡ line
+    by_two true e h = let is : Compact ≡ format = cc in ap format_text (sym is) ∙ sym ((bytes_eq-Decides line (format_text Compact)).0 e)
+    by_two false e h = by_three (bytes_eq line (format_text Sparse)) refl h
 
-    by_one : (b : Bool) → bytes_eq line (format_text One) ≡ b → cond b (Some One) (cond (bytes_eq line (format_text Two)) (Some Two) (cond (bytes_eq line (format_text Three)) (Some Three) None)) ≡ Some format → format_text format ≡ line
-    by_one true e h = let is : One ≡ format = cc in ap format_text (sym is) ∙ sym ((bytes_eq-Decides line (format_text One)).0 e)
-    by_one false e h = by_two (bytes_eq line (format_text Two)) refl h
+    by_one : (b : Bool) → bytes_eq line (format_text Full) ≡ b → cond b (Some Full) (cond (bytes_eq line (format_text Compact)) (Some Compact) (cond (bytes_eq line (format_text Sparse)) (Some Sparse) None)) ≡ Some format → format_text format ≡ line
+    by_one true e h = let is : Full ≡ format = cc in ap format_text (sym is) ∙ sym ((bytes_eq-Decides line (format_text Full)).0 e)
+    by_one false e h = by_two (bytes_eq line (format_text Compact)) refl h
 
 -- all lines, and the certificate whose text they are
 abbrev IsText : List (List ℕ) → Certificate → Type 0
@@ -105,11 +105,11 @@ by_rows first second next lines format rules (Ok rows) c f r e h =
     subst (IsText (first ∷ second ∷ next ∷ lines)) is
     (text_lines format rules (row_lines rows) ∙ ap (λ x. x ++ 10 ∷ (rules_text rules ++ 10 ∷ row_lines rows)) f ∙ ap (λ x. first ++ 10 ∷ (x ++ 10 ∷ row_lines rows)) (sym r) ∙ ap (λ x. first ++ 10 ∷ (second ++ 10 ∷ x)) back.0, back.1)
 
-by_rules : (first second next : List ℕ) (lines : List (List ℕ)) (format : Format) (o : Option SpellRules) (c : Certificate) → format_text format ≡ first → line_rules second ≡ o → behind_rules format (next ∷ lines) o ≡ Ok c → IsText (first ∷ second ∷ next ∷ lines) c
+by_rules : (first second next : List ℕ) (lines : List (List ℕ)) (format : Format) (o : Option SpellRules) (c : Certificate) → format_text format ≡ first → line_rules second ≡ o → after_rules format (next ∷ lines) o ≡ Ok c → IsText (first ∷ second ∷ next ∷ lines) c
 by_rules first second next lines format None c f e h = absurd (cc)
 by_rules first second next lines format (Some rules) c f e h = by_rows first second next lines format rules (lines_rows 3 (next ∷ lines)) c f (rule.line_back second rules e) refl h
 
-by_format : (first : List ℕ) (lines : List (List ℕ)) (o : Option Format) (c : Certificate) → line_format first ≡ o → behind_format lines o ≡ Ok c → IsText (first ∷ lines) c
+by_format : (first : List ℕ) (lines : List (List ℕ)) (o : Option Format) (c : Certificate) → line_format first ≡ o → after_format lines o ≡ Ok c → IsText (first ∷ lines) c
 by_format first lines None c e h = absurd (cc)
 by_format first [] (Some format) c e h = absurd (cc)
 by_format first (second ∷ []) (Some format) c e h = absurd (cc)

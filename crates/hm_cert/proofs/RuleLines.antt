@@ -151,30 +151,30 @@ flags_left line text h left = by_case (line_rules line) refl
 pub record Taken (line text : List ℕ) (rules : SpellRules) (rest1 rest2 rest3 rest4 rest5 : List ℕ) : Type 0 where
   pub front : Some text ≡ strip (codes "rules") line
   pub omit : rules.omit ≡ is_there (codes " omit") text
-  pub behind_omit : rest1 ≡ left (codes " omit") text
+  pub rest_after_omit : rest1 ≡ left (codes " omit") text
   pub unquote : rules.unquote ≡ is_there (codes " unquote") rest1
-  pub behind_unquote : rest2 ≡ left (codes " unquote") rest1
+  pub rest_after_unquote : rest2 ≡ left (codes " unquote") rest1
   pub tight : rules.tight ≡ is_there (codes " tight") rest2
-  pub behind_tight : rest3 ≡ left (codes " tight") rest2
+  pub rest_after_tight : rest3 ≡ left (codes " tight") rest2
   pub ascii : rules.ascii ≡ is_there (codes " ascii") rest3
-  pub behind_ascii : rest4 ≡ left (codes " ascii") rest3
+  pub rest_after_ascii : rest4 ≡ left (codes " ascii") rest3
   pub frame : rules.frame ≡ is_there (codes " frame") rest4
-  pub behind_frame : rest5 ≡ left (codes " frame") rest4
+  pub rest_after_frame : rest5 ≡ left (codes " frame") rest4
 
 taken_rest : (line text : List ℕ) (rules : SpellRules) (rest1 rest2 rest3 rest4 rest5 : List ℕ) → Taken line text rules rest1 rest2 rest3 rest4 rest5 → rest5 ≡ left5 text
 taken_rest line text rules rest1 rest2 rest3 rest4 rest5 t =
-    let two : rest2 ≡ left2 text = t.behind_unquote ∙ ap (left (codes " unquote")) t.behind_omit in
-    let three : rest3 ≡ left3 text = t.behind_tight ∙ ap (left (codes " tight")) two in
-    let four : rest4 ≡ left4 text = t.behind_ascii ∙ ap (left (codes " ascii")) three in
-    t.behind_frame ∙ ap (left (codes " frame")) four
+    let two : rest2 ≡ left2 text = t.rest_after_unquote ∙ ap (left (codes " unquote")) t.rest_after_omit in
+    let three : rest3 ≡ left3 text = t.rest_after_tight ∙ ap (left (codes " tight")) two in
+    let four : rest4 ≡ left4 text = t.rest_after_ascii ∙ ap (left (codes " ascii")) three in
+    t.rest_after_frame ∙ ap (left (codes " frame")) four
 
 taken_rules : (line text : List ℕ) (rules : SpellRules) (rest1 rest2 rest3 rest4 rest5 : List ℕ) → Taken line text rules rest1 rest2 rest3 rest4 rest5 → flags_of text ≡ rules
 taken_rules line text rules rest1 rest2 rest3 rest4 rest5 t =
-    let two : rest2 ≡ left2 text = t.behind_unquote ∙ ap (left (codes " unquote")) t.behind_omit in
-    let three : rest3 ≡ left3 text = t.behind_tight ∙ ap (left (codes " tight")) two in
-    let four : rest4 ≡ left4 text = t.behind_ascii ∙ ap (left (codes " ascii")) three in
+    let two : rest2 ≡ left2 text = t.rest_after_unquote ∙ ap (left (codes " unquote")) t.rest_after_omit in
+    let three : rest3 ≡ left3 text = t.rest_after_tight ∙ ap (left (codes " tight")) two in
+    let four : rest4 ≡ left4 text = t.rest_after_ascii ∙ ap (left (codes " ascii")) three in
     let omit : is_there (codes " omit") text ≡ rules.omit = sym t.omit in
-    let unquote : is_there (codes " unquote") (left1 text) ≡ rules.unquote = sym (t.unquote ∙ ap (is_there (codes " unquote")) t.behind_omit) in
+    let unquote : is_there (codes " unquote") (left1 text) ≡ rules.unquote = sym (t.unquote ∙ ap (is_there (codes " unquote")) t.rest_after_omit) in
     let tight : is_there (codes " tight") (left2 text) ≡ rules.tight = sym (t.tight ∙ ap (is_there (codes " tight")) two) in
     let ascii : is_there (codes " ascii") (left3 text) ≡ rules.ascii = sym (t.ascii ∙ ap (is_there (codes " ascii")) three) in
     let frame : is_there (codes " frame") (left4 text) ≡ rules.frame = sym (t.frame ∙ ap (is_there (codes " frame")) four) in

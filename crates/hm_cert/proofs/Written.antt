@@ -10,9 +10,9 @@ use Rattle.std.proofs.lemmas.List.Splits.{slice_split-cons_yes, slice_split-cons
 use Rattle.std.proofs.lemmas.Str.Parse.{digit_at}
 use Rattle.hm_base.specs.declared.plain.SpellRules.{SpellRules}
 use Rattle.hm_base.specs.declared.plain.Format.{Format}
-use Rattle.hm_base.specs.declared.plain.Format.TheVariants.{One, Two, Three}
+use Rattle.hm_base.specs.declared.plain.Format.TheVariants.{Full, Compact, Sparse}
 use Rattle.hm_cert.specs.Certificate.{Row, IsPrice, ArePrices, AreRows, price_text, row_text, row_lines, format_text, flag_text, rules_text, head_lines, certificate_text}
-use Rattle.hm_cert.specs.Reading.{pieces, words_row, line_row, line_format, and_row, with_row, rows_in, with_head, behind_rules, given}
+use Rattle.hm_cert.specs.Reading.{pieces, words_row, line_row, line_format, and_row, with_row, rows_in, with_head, after_rules, given}
 use Rattle.hm_cert.proofs.PriceTexts.{digits_of_decimal, text_price}
 use Rattle.hm_cert.proofs.RuleLines.{rules_back}
 use Rattle.hm_cert.proofs.LineRows.{rows_step, by_second}
@@ -108,14 +108,14 @@ rows_back number (row ∷ rows) h =
     ∙ ap (and_row row) (rows_back (number + 1) rows h.2)
 
 format_cut : (format : Format) (rest : List ℕ) → pieces 10 (format_text format ++ 10 ∷ rest) ≡ format_text format ∷ pieces 10 rest
-format_cut One rest = refl
-format_cut Two rest = refl
-format_cut Three rest = refl
+format_cut Full rest = refl
+format_cut Compact rest = refl
+format_cut Sparse rest = refl
 
 format_back : (format : Format) → line_format (format_text format) ≡ Some format
-format_back One = refl
-format_back Two = refl
-format_back Three = refl
+format_back Full = refl
+format_back Compact = refl
+format_back Sparse = refl
 
 -- a certificate's text, line by line
 pub text_lines : (format : Format) (rules : SpellRules) (rest : List ℕ) → head_lines format rules ++ rest ≡ format_text format ++ 10 ∷ (rules_text rules ++ 10 ∷ rest)
@@ -129,5 +129,5 @@ written_is_read format rules rows h =
     let second : List ℕ = rules_text rules ++ 10 ∷ rest in
     ap given (text_lines format rules rest)
     ∙ by_second (format_text format ++ 10 ∷ second) (format_text format) second (rules_text rules) rest format (format_cut format second) (format_back format) (free_cut 10 (rules_text rules) rest (free_rules rules))
-    ∙ ap (behind_rules format (pieces 10 rest)) (rules_back rules).line
+    ∙ ap (after_rules format (pieces 10 rest)) (rules_back rules).line
     ∙ ap (with_head format rules) (rows_back 3 rows h)

@@ -5,7 +5,7 @@ use Rattle.std.specs.Fmt.{decimal}
 use Rattle.std.specs.List.{join_with_byte}
 use Rattle.hm_base.specs.declared.plain.SpellRules.{SpellRules}
 use Rattle.hm_base.specs.declared.plain.Format.{Format}
-use Rattle.hm_base.specs.declared.plain.Format.TheVariants.{One, Two, Three}
+use Rattle.hm_base.specs.declared.plain.Format.TheVariants.{Full, Compact, Sparse}
 
 -- the prices of a layer's states, in their order; a closed one is None
 abbrev pub Row : Type 0
@@ -33,9 +33,9 @@ row_lines [] = []
 row_lines (row ∷ rows) = row_line row ++ row_lines rows
 
 abbrev pub format_text : Format → List ℕ
-format_text One = codes "html-cert 1"
-format_text Two = codes "html-cert 2"
-format_text Three = codes "html-cert 3"
+format_text Full = codes "html-cert 1"
+format_text Compact = codes "html-cert 2"
+format_text Sparse = codes "html-cert 3"
 
 -- a word after a space, where it is set
 abbrev pub flag_text : Bool → List ℕ → List ℕ

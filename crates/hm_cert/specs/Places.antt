@@ -1,7 +1,7 @@
 -- The rows of a certificate that was read, and places between them.
 use Rattle.std.specs.Prelude.{ℕ, ◌≡◌, ◌≢◌, ◌+◌, ◌≤◌, ◌<◌, ⊤, List, [], Result, Ok, Err, length, take, slice_index}
 use Rattle.hm_cert.specs.declared.lines.CertificateFault.{CertificateFault}
-use Rattle.hm_cert.specs.declared.lines.CertificateFault.TheVariants.{TooLong, BadLine, Memory}
+use Rattle.hm_cert.specs.declared.lines.CertificateFault.TheVariants.{TooLong, BadLine, OutOfMemory}
 use Rattle.hm_cert.specs.declared.kept.RowPlace.{RowPlace}
 use Rattle.hm_cert.specs.Certificate.{Row, AreRows, row_lines}
 use Rattle.hm_cert.specs.Reading.{rows_in}
@@ -28,7 +28,7 @@ IsRowPlace rows place = (place.row ≤ length rows) × (place.at ≡ length (row
 pub record IsLineStart (text : List ℕ) (end at : ℕ) : Type 0 where
   pub within : at ≤ end
   pub none : (k : ℕ) → at ≤ k → k < end → slice_index text k ≢ 10
-  pub behind : 0 < at → (k : ℕ) → k + 1 ≡ at → slice_index text k ≡ 10
+  pub after : 0 < at → (k : ℕ) → k + 1 ≡ at → slice_index text k ≡ 10
 
 -- the rows that an answer counts
 pub record AreSoMany (left : Result (List Row) ℕ) (count : ℕ) : Type 0 where
@@ -41,4 +41,4 @@ abbrev pub AreCounted : Result (List Row) ℕ → Result ℕ CertificateFault �
 AreCounted left (Ok count) = AreSoMany left count
 AreCounted left (Err (BadLine line)) = left ≡ Err line
 AreCounted left (Err TooLong) = ⊥
-AreCounted left (Err Memory) = ⊤
+AreCounted left (Err OutOfMemory) = ⊤

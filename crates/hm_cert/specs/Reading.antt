@@ -6,10 +6,10 @@ use Rattle.hm_base.specs.Bytes.{is_null}
 use Rattle.hm_base.specs.declared.plain.SpellRules.{SpellRules}
 use Rattle.hm_base.specs.declared.limits.TheConstants.{CERTIFICATE_LIMIT}
 use Rattle.hm_base.specs.declared.plain.Format.{Format}
-use Rattle.hm_base.specs.declared.plain.Format.TheVariants.{One, Two, Three}
+use Rattle.hm_base.specs.declared.plain.Format.TheVariants.{Full, Compact, Sparse}
 use Rattle.hm_cert.specs.declared.certificate.Certificate.{Certificate}
 use Rattle.hm_cert.specs.declared.lines.CertificateFault.{CertificateFault}
-use Rattle.hm_cert.specs.declared.lines.CertificateFault.TheVariants.{TooLong, BadLine, Memory}
+use Rattle.hm_cert.specs.declared.lines.CertificateFault.TheVariants.{TooLong, BadLine, OutOfMemory}
 use Rattle.hm_cert.specs.Certificate.{Row, price_text, format_text, rules_text}
 
 -- what stands before each byte `mark` of a text, and what follows the last
@@ -30,7 +30,7 @@ line_row line = words_row (pieces 32 line)
 
 -- the format whose text the line is
 abbrev pub line_format : List ℕ → Option Format
-line_format line = if bytes_eq line (format_text One) then Some One else (if bytes_eq line (format_text Two) then Some Two else (if bytes_eq line (format_text Three) then Some Three else None))
+line_format line = if bytes_eq line (format_text Full) then Some Full else (if bytes_eq line (format_text Compact) then Some Compact else (if bytes_eq line (format_text Sparse) then Some Sparse else None))
 
 abbrev pub has_word : List ℕ → List (List ℕ) → Bool
 has_word word [] = false
@@ -68,21 +68,21 @@ with_head format rules (Ok rows) = Ok (record { format = format; rules = rules; 
 with_head format rules (Err bad) = Err bad
 
 -- the lines from the third on, by what the second one is
-abbrev pub behind_rules : Format → List (List ℕ) → Option SpellRules → Result Certificate ℕ
-behind_rules format lines None = Err 2
-behind_rules format lines (Some rules) = with_head format rules (lines_rows 3 lines)
+abbrev pub after_rules : Format → List (List ℕ) → Option SpellRules → Result Certificate ℕ
+after_rules format lines None = Err 2
+after_rules format lines (Some rules) = with_head format rules (lines_rows 3 lines)
 
 -- the lines from the second on, by what the first one is
-abbrev pub behind_format : List (List ℕ) → Option Format → Result Certificate ℕ
-behind_format lines None = Err 1
-behind_format [] (Some format) = Err 2
-behind_format (line ∷ []) (Some format) = Err 2
-behind_format (line ∷ next ∷ lines) (Some format) = behind_rules format (next ∷ lines) (line_rules line)
+abbrev pub after_format : List (List ℕ) → Option Format → Result Certificate ℕ
+after_format lines None = Err 1
+after_format [] (Some format) = Err 2
+after_format (line ∷ []) (Some format) = Err 2
+after_format (line ∷ next ∷ lines) (Some format) = after_rules format (next ∷ lines) (line_rules line)
 
 abbrev pub given_lines : List (List ℕ) → Result Certificate ℕ
 given_lines [] = Err 1
 given_lines (line ∷ []) = Err 1
-given_lines (line ∷ next ∷ lines) = behind_format (next ∷ lines) (line_format line)
+given_lines (line ∷ next ∷ lines) = after_format (next ∷ lines) (line_format line)
 
 -- the certificate whose text this is, or the number of the first bad line
 abbrev pub given : List ℕ → Result Certificate ℕ
@@ -93,33 +93,33 @@ abbrev pub ReadsAs : List ℕ → Result Certificate CertificateFault → Type 0
 ReadsAs bytes (Ok certificate) = (length bytes ≤ CERTIFICATE_LIMIT) × (given bytes ≡ Ok certificate)
 ReadsAs bytes (Err TooLong) = CERTIFICATE_LIMIT < length bytes
 ReadsAs bytes (Err (BadLine line)) = (length bytes ≤ CERTIFICATE_LIMIT) × (given bytes ≡ Err line)
-ReadsAs bytes (Err Memory) = ⊤
+ReadsAs bytes (Err OutOfMemory) = ⊤
 
 -- why bytes have no first two lines
 abbrev pub IsBadHead : List ℕ → CertificateFault → Type 0
 IsBadHead bytes TooLong = CERTIFICATE_LIMIT < length bytes
 IsBadHead bytes (BadLine line) = (length bytes ≤ CERTIFICATE_LIMIT) × (given bytes ≡ Err line)
-IsBadHead bytes Memory = ⊥
+IsBadHead bytes OutOfMemory = ⊥
 
 -- what an answer to whether there is one more row says of the rows that are left, by that row and the rows after it
 abbrev pub IsNext : Result (List Row) ℕ → Row → Result (List Row) ℕ → Result Bool CertificateFault → Type 0
-IsNext left row behind (Ok true) = left ≡ and_row row behind
-IsNext left row behind (Ok false) = left ≡ Ok []
-IsNext left row behind (Err (BadLine line)) = left ≡ Err line
-IsNext left row behind (Err TooLong) = ⊥
-IsNext left row behind (Err Memory) = ⊤
+IsNext left row after (Ok true) = left ≡ and_row row after
+IsNext left row after (Ok false) = left ≡ Ok []
+IsNext left row after (Err (BadLine line)) = left ≡ Err line
+IsNext left row after (Err TooLong) = ⊥
+IsNext left row after (Err OutOfMemory) = ⊤
 
 -- what an answer to whether one more row was skipped says of the rows that are left, by those after it
 abbrev pub IsPassed : Result (List Row) ℕ → Result (List Row) ℕ → Result Bool CertificateFault → Type 0
-IsPassed left behind (Ok true) = (row : Row) × (left ≡ and_row row behind)
-IsPassed left behind (Ok false) = left ≡ Ok []
-IsPassed left behind (Err (BadLine line)) = left ≡ Err line
-IsPassed left behind (Err TooLong) = ⊥
-IsPassed left behind (Err Memory) = ⊤
+IsPassed left after (Ok true) = (row : Row) × (left ≡ and_row row after)
+IsPassed left after (Ok false) = left ≡ Ok []
+IsPassed left after (Err (BadLine line)) = left ≡ Err line
+IsPassed left after (Err TooLong) = ⊥
+IsPassed left after (Err OutOfMemory) = ⊤
 
 -- what an answer on all rows that are left says
 abbrev pub RowsAre : Result (List Row) ℕ → Result (List Row) CertificateFault → Type 0
 RowsAre left (Ok rows) = left ≡ Ok rows
 RowsAre left (Err (BadLine line)) = left ≡ Err line
 RowsAre left (Err TooLong) = ⊥
-RowsAre left (Err Memory) = ⊤
+RowsAre left (Err OutOfMemory) = ⊤

@@ -5,7 +5,7 @@ ghost use Rattle.hm_cert.specs.Certificate.{price_text};
 ghost use Rattle.hm_cert.specs.Layout.{told};
 ghost use Rattle.hm_cert.specs.Hundreds.{HasHundreds, IsKept, IsPut};
 
-use hm_base::Memory;
+use hm_base::OutOfMemory;
 
 /// The digits of the hundreds of some number below 10^9.
 #[derive(Clone, Copy)]
@@ -126,7 +126,7 @@ impl Hundreds {
 }
 
 /// Appends the digits of a number, the last first.
-pub(crate) fn put_number(out: &mut Vec<u8>, number: u64) -> Result<(), Memory>
+pub(crate) fn put_number(out: &mut Vec<u8>, number: u64) -> Result<(), OutOfMemory>
     ensures { OnOk result (out.new.items ≡ out.old.items ++ reverse (decimal number)) }
 {
     let mut rest = number;
@@ -154,7 +154,7 @@ fn two_digits(number: u8) -> [u8; 2]
 
 /// Appends the two digits of a number below 100, the last first.
 #[inline(always)]
-fn put_pair(out: &mut Vec<u8>, pair: u8) -> Result<(), Memory>
+fn put_pair(out: &mut Vec<u8>, pair: u8) -> Result<(), OutOfMemory>
     requires { pair < 100 }
     ensures { OnOk result (out.new.items ≡ out.old.items ++ (48 + pair % 10) ∷ (48 + pair / 10) ∷ []) }
 {

@@ -7,7 +7,7 @@ ghost use Rattle.hm_cert.specs.Reading.{RowsAre, rows_in};
 use crate::leading::LeadingDigits;
 use crate::lines::{CertificateFault, Lines, read_row};
 use crate::short::short_row_before;
-use hm_base::Memory;
+use hm_base::OutOfMemory;
 use memchr::memrchr;
 use std::alloc::Global;
 use std::marker::Model;
@@ -73,7 +73,11 @@ impl<'a> WrittenRows<'a> {
     }
 
     /// Reads the row before a place, of any form, in place of what the list held, and moves the place before it.
-    fn any_row_before(&self, place: &mut RowPlace<'a>, into: &mut Vec<u64>) -> Result<(), Memory>
+    fn any_row_before(
+        &self,
+        place: &mut RowPlace<'a>,
+        into: &mut Vec<u64>,
+    ) -> Result<(), OutOfMemory>
         requires place { IsRowPlace self.now place.old }
         requires some { 0 < place.old.row }
         ensures row { OnOk result (map told into.new.items ≡ slice_index_or self.now (place.old.row - 1) []) }
@@ -87,9 +91,13 @@ impl<'a> WrittenRows<'a> {
         Ok(())
     }
 
-    /// Reads the row before a place into a list, in place of what is there, a closed price as `CLOSED`. The place moves
+    /// Reads the row before a place into a list, in place of what is there, a closed price as `INFINITE`. The place moves
     /// before that row. Where memory is refused, the place stays where it was.
-    pub fn row_before(&self, place: &mut RowPlace<'a>, into: &mut Vec<u64>) -> Result<(), Memory>
+    pub fn row_before(
+        &self,
+        place: &mut RowPlace<'a>,
+        into: &mut Vec<u64>,
+    ) -> Result<(), OutOfMemory>
         requires place { IsRowPlace self.now place.old }
         requires some { 0 < place.old.row }
         ensures row { OnOk result (map told into.new.items ≡ slice_index_or self.now (place.old.row - 1) []) }

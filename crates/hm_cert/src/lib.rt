@@ -15,6 +15,6 @@ mod text;
 pub use certificate::Certificate;
 pub use kept::{RowPlace, WrittenRows};
 pub use lines::{CertificateFault, Head, Lines, read_head};
-pub use prices::{CLOSED, Prices, add_each, more, price_of};
+pub use prices::{INFINITE, Prices, add_each, more, price_of};
 pub use reversed::ReversedText;
 pub use text::{put_head, put_line, write_certificate};

@@ -8,10 +8,10 @@ ghost use Rattle.hm_cert.specs.Words.{HasNumberForm, IsNumber, IsUpTo};
 ghost use Rattle.hm_cert.specs.Reading.{IsBadHead, IsNext, IsPassed, given, line_format, line_row, line_rules, pieces, rows_in, with_head, word_price};
 
 use crate::leading::LeadingDigits;
-use crate::prices::CLOSED;
+use crate::prices::INFINITE;
 use crate::short::short_line;
 use crate::text::format_text;
-use hm_base::{CERTIFICATE_LIMIT, Format, Memory, SpellRules};
+use hm_base::{CERTIFICATE_LIMIT, Format, OutOfMemory, SpellRules};
 use memchr::memchr;
 
 /// Why bytes aren't a certificate.
@@ -22,17 +22,17 @@ pub enum CertificateFault {
     /// The first line that isn't as the format says, counted from 1.
     BadLine { line: u32 },
     /// Memory was refused.
-    Memory,
+    OutOfMemory,
 }
 
-impl From<Memory> for CertificateFault {
+impl From<OutOfMemory> for CertificateFault {
     ghost use Rattle.std.specs.Prelude.{◌≡◌};
     ghost use Rattle.hm_cert.specs.declared.lines.CertificateFault.TheVariants as faults;
 
-    ghost from_gives = { λ _ fault. fault ≡ faults.Memory };
+    ghost from_gives = { λ _ fault. fault ≡ faults.OutOfMemory };
 
-    fn from(_memory: Memory) -> Self {
-        CertificateFault::Memory
+    fn from(_memory: OutOfMemory) -> Self {
+        CertificateFault::OutOfMemory
     }
 }
 
@@ -89,7 +89,7 @@ impl<'a> Lines<'a> {
         self.rest
     }
 
-    /// Reads the next row into a list, in place of what is there, a closed price as `CLOSED`. False at the end. After a
+    /// Reads the next row into a list, in place of what is there, a closed price as `INFINITE`. False at the end. After a
     /// refusal the lines are as they were.
     pub fn next_row(&mut self, into: &mut Vec<u64>) -> Result<bool, CertificateFault>
         ensures row { IsNext (rows_in self.old.number self.old.rest.now) (map told into.new.items) (rows_in self.new.number self.new.rest.now) result }
@@ -149,12 +149,12 @@ fn cut(text: &[u8], mark: u8) -> Option<(&[u8], &[u8])>
 fn read_format(line: &[u8]) -> Option<Format>
     ensures { result ≡ line_format line.now }
 {
-    if line == format_text(Format::One) {
-        Some(Format::One)
-    } else if line == format_text(Format::Two) {
-        Some(Format::Two)
-    } else if line == format_text(Format::Three) {
-        Some(Format::Three)
+    if line == format_text(Format::Full) {
+        Some(Format::Full)
+    } else if line == format_text(Format::Compact) {
+        Some(Format::Compact)
+    } else if line == format_text(Format::Sparse) {
+        Some(Format::Sparse)
     } else {
         None
     }
@@ -164,7 +164,7 @@ fn read_format(line: &[u8]) -> Option<Format>
 fn read_rules(line: &[u8]) -> Option<SpellRules>
     ensures { result ≡ line_rules line.now }
 {
-    let rest = behind(line, b"rules")?;
+    let rest = after(line, b"rules")?;
     let (omit, rest) = take_flag(rest, b" omit");
     let (unquote, rest) = take_flag(rest, b" unquote");
     let (tight, rest) = take_flag(rest, b" tight");
@@ -187,14 +187,14 @@ fn take_flag<'a>(text: &'a [u8], word: &[u8]) -> (bool, &'a [u8])
     ensures flag { result.0 ≡ is_some (strip word.now text.now) }
     ensures rest { result.1.now ≡ unwrap_or (strip word.now text.now) text.now }
 {
-    match behind(text, word) {
+    match after(text, word) {
         Some(rest) => (true, rest),
         None => (false, text),
     }
 }
 
 /// What follows a word, where the text begins with it.
-fn behind<'a>(text: &'a [u8], word: &[u8]) -> Option<&'a [u8]>
+fn after<'a>(text: &'a [u8], word: &[u8]) -> Option<&'a [u8]>
     ensures { option_map (λ rest. rest.now) result ≡ strip word.now text.now }
 {
     if text.starts_with(word) {
@@ -213,7 +213,7 @@ struct FirstPrice<'a> {
 }
 
 /// Reads a row into a list, in place of what is there. Whether each word of the line is a price.
-pub(crate) fn read_row(line: &[u8], into: &mut Vec<u64>) -> Result<bool, Memory>
+pub(crate) fn read_row(line: &[u8], into: &mut Vec<u64>) -> Result<bool, OutOfMemory>
     ensures { IfOk result (λ good. line_row line.now ≡ (if good then Some (map told into.new.items) else None)) }
 {
     into.clear();
@@ -252,7 +252,7 @@ pub(crate) fn read_price(word: &[u8]) -> Option<u64>
     ensures { option_map told result ≡ word_price word.now }
 {
     if word == b"-".as_slice() {
-        return Some(CLOSED);
+        return Some(INFINITE);
     }
     if !has_number_form(word) {
         return None;

@@ -3,18 +3,22 @@ ghost use Rattle.std.specs.Prelude.{◌≡◌, ℕ, ◌+◌, ◌^◌, option_map
 ghost use Rattle.hm_cert.specs.Layout.{told};
 ghost use Rattle.hm_cert.specs.Rows.{AreBelow, IsBelow};
 
-use hm_base::Memory;
+use hm_base::OutOfMemory;
 use std::alloc::Global;
 use std::marker::Model;
 
 /// The number that stands for a closed price, one without a bound.
-pub const CLOSED: u64 = u64::MAX;
+pub const INFINITE: u64 = u64::MAX;
 
 /// The price that a number stands for: none where it is closed.
 pub fn price_of(number: u64) -> Option<u64>
     ensures { result ≡ told number }
 {
-    if number == CLOSED { None } else { Some(number) }
+    if number == INFINITE {
+        None
+    } else {
+        Some(number)
+    }
 }
 
 /// The price with `len` added.
@@ -70,8 +74,8 @@ impl Prices {
         }
     }
 
-    /// Adds a row at the end: its prices, a closed one as `CLOSED`.
-    pub fn push_row(&mut self, row: &[u64]) -> Result<(), Memory>
+    /// Adds a row at the end: its prices, a closed one as `INFINITE`.
+    pub fn push_row(&mut self, row: &[u64]) -> Result<(), OutOfMemory>
         ensures ok { OnOk result (self.new ≡ self.old ++ map told row.now ∷ []) }
         ensures unchanged { OnErr result (self.new ≡ self.old) }
     {
@@ -81,7 +85,7 @@ impl Prices {
             Ok(()) => Ok(()),
             Err(_) => {
                 self.numbers.truncate(start);
-                Err(Memory)
+                Err(OutOfMemory)
             }
         }
     }
@@ -101,7 +105,7 @@ impl Prices {
         self.ends.len()
     }
 
-    /// The prices of row `k`, a closed one as `CLOSED`.
+    /// The prices of row `k`, a closed one as `INFINITE`.
     pub fn row(&self, k: usize) -> &[u64]
         requires { k < length self.now }
         ensures { map told result.now ≡ slice_index_or self.now k [] }

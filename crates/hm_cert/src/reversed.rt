@@ -4,9 +4,9 @@ ghost use Rattle.hm_cert.specs.Certificate.{flag_text, head_lines, more_prices, 
 ghost use Rattle.hm_cert.specs.Layout.{told};
 
 use crate::hundreds::{Hundreds, put_number};
-use crate::prices::CLOSED;
+use crate::prices::INFINITE;
 use crate::text::format_text;
-use hm_base::{Format, Memory, SpellRules};
+use hm_base::{Format, OutOfMemory, SpellRules};
 use std::alloc::Global;
 use std::marker::Model;
 
@@ -52,7 +52,7 @@ impl ReversedText {
     }
 
     /// Adds the first two lines.
-    pub fn put_head(&mut self, format: Format, rules: SpellRules) -> Result<(), Memory>
+    pub fn put_head(&mut self, format: Format, rules: SpellRules) -> Result<(), OutOfMemory>
         ensures { OnOk result (self.new ≡ self.old ++ reverse (head_lines format rules)) }
     {
         self.spare.clear();
@@ -62,7 +62,7 @@ impl ReversedText {
 
     /// Adds the line of a row.
     #[inline(always)]
-    pub fn put_line(&mut self, row: &[u64]) -> Result<(), Memory>
+    pub fn put_line(&mut self, row: &[u64]) -> Result<(), OutOfMemory>
         ensures { OnOk result (self.new ≡ self.old ++ reverse (row_line (map told row.now))) }
     {
         if row.is_empty() || row.len() > PRICES {
@@ -80,7 +80,7 @@ impl ReversedText {
 
     /// As `put_line`, for a row of any form.
     #[inline(never)]
-    fn put_other(&mut self, row: &[u64]) -> Result<(), Memory>
+    fn put_other(&mut self, row: &[u64]) -> Result<(), OutOfMemory>
         ensures { OnOk result (self.new ≡ self.old ++ reverse (row_line (map told row.now))) }
     {
         self.spare.clear();
@@ -100,7 +100,7 @@ impl ReversedText {
 
 /// Makes room for `count` prices after the first `len` bytes.
 #[inline(always)]
-fn make_room(bytes: &mut Vec<u8>, len: usize, count: usize) -> Result<(), Memory>
+fn make_room(bytes: &mut Vec<u8>, len: usize, count: usize) -> Result<(), OutOfMemory>
     requires within { len ≤ length bytes.old.items }
     requires few { count ≤ 256 }
     ensures front { take len bytes.new.items ≡ take len bytes.old.items }
@@ -114,7 +114,7 @@ fn make_room(bytes: &mut Vec<u8>, len: usize, count: usize) -> Result<(), Memory
 }
 
 /// Adds these bytes after the first `len`, into the room or in its place.
-fn add(bytes: &mut Vec<u8>, len: &mut usize, more: &[u8]) -> Result<(), Memory>
+fn add(bytes: &mut Vec<u8>, len: &mut usize, more: &[u8]) -> Result<(), OutOfMemory>
     requires { len.old ≤ length bytes.old.items }
     ensures within { len.new ≤ length bytes.new.items }
     ensures added { OnOk result (take len.new bytes.new.items ≡ take len.old bytes.old.items ++ more.now) }
@@ -132,7 +132,11 @@ fn add(bytes: &mut Vec<u8>, len: &mut usize, more: &[u8]) -> Result<(), Memory>
 }
 
 /// Appends the first two lines, the last byte first. Where memory is refused, a part may have been appended.
-fn put_head_reversed(out: &mut Vec<u8>, format: Format, rules: SpellRules) -> Result<(), Memory>
+fn put_head_reversed(
+    out: &mut Vec<u8>,
+    format: Format,
+    rules: SpellRules,
+) -> Result<(), OutOfMemory>
     ensures { OnOk result (out.new.items ≡ out.old.items ++ reverse (head_lines format rules)) }
 {
     out.push(b'\n')?;
@@ -146,7 +150,7 @@ fn put_head_reversed(out: &mut Vec<u8>, format: Format, rules: SpellRules) -> Re
 }
 
 /// Appends the line of a row, the last byte first. Where memory is refused, a part may have been appended.
-fn put_line_reversed(out: &mut Vec<u8>, row: &[u64]) -> Result<(), Memory>
+fn put_line_reversed(out: &mut Vec<u8>, row: &[u64]) -> Result<(), OutOfMemory>
     ensures { OnOk result (out.new.items ≡ out.old.items ++ reverse (row_line (map told row.now))) }
 {
     put_row(out, row, b'\n')
@@ -170,7 +174,7 @@ fn put_prices(line: &mut [u8], hundreds: &mut Hundreds, row: &[u64]) -> Option<u
 }
 
 /// Appends prices with a space between and a byte after them, the last byte first.
-fn put_row(out: &mut Vec<u8>, row: &[u64], mark: u8) -> Result<(), Memory>
+fn put_row(out: &mut Vec<u8>, row: &[u64], mark: u8) -> Result<(), OutOfMemory>
     ensures { OnOk result (out.new.items ≡ out.old.items ++ mark ∷ reverse (row_text (map told row.now))) }
 {
     out.push(mark)?;
@@ -182,7 +186,7 @@ fn put_row(out: &mut Vec<u8>, row: &[u64], mark: u8) -> Result<(), Memory>
 }
 
 /// Appends prices, each after a space, the last byte first.
-fn put_more(out: &mut Vec<u8>, row: &[u64]) -> Result<(), Memory>
+fn put_more(out: &mut Vec<u8>, row: &[u64]) -> Result<(), OutOfMemory>
     ensures { OnOk result (out.new.items ≡ out.old.items ++ reverse (more_prices (map told row.now))) }
 {
     for k in (0..row.len()).rev() {
@@ -193,10 +197,10 @@ fn put_more(out: &mut Vec<u8>, row: &[u64]) -> Result<(), Memory>
 }
 
 /// Appends a price, the last byte first.
-fn put_price(out: &mut Vec<u8>, price: u64) -> Result<(), Memory>
+fn put_price(out: &mut Vec<u8>, price: u64) -> Result<(), OutOfMemory>
     ensures { OnOk result (out.new.items ≡ out.old.items ++ reverse (price_text (told price))) }
 {
-    if price == CLOSED {
+    if price == INFINITE {
         out.push(b'-')?;
         return Ok(());
     }
@@ -204,7 +208,7 @@ fn put_price(out: &mut Vec<u8>, price: u64) -> Result<(), Memory>
 }
 
 /// Appends a word after a space, where it is set, the last byte first.
-fn put_flag(out: &mut Vec<u8>, is_set: bool, word: &[u8]) -> Result<(), Memory>
+fn put_flag(out: &mut Vec<u8>, is_set: bool, word: &[u8]) -> Result<(), OutOfMemory>
     ensures { OnOk result (out.new.items ≡ out.old.items ++ reverse (flag_text is_set word.now)) }
 {
     if is_set {
@@ -215,7 +219,7 @@ fn put_flag(out: &mut Vec<u8>, is_set: bool, word: &[u8]) -> Result<(), Memory>
 }
 
 /// Appends bytes, the last first.
-fn put_bytes(out: &mut Vec<u8>, bytes: &[u8]) -> Result<(), Memory>
+fn put_bytes(out: &mut Vec<u8>, bytes: &[u8]) -> Result<(), OutOfMemory>
     ensures { OnOk result (out.new.items ≡ out.old.items ++ reverse bytes.now) }
 {
     for k in (0..bytes.len()).rev() {

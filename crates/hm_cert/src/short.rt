@@ -5,8 +5,8 @@ ghost use Rattle.hm_cert.specs.Short.{AreDigits, IsBackTo, IsLastPrice, IsShortL
 
 use crate::leading::LeadingDigits;
 use crate::lines::has_number_form;
-use crate::prices::CLOSED;
-use hm_base::Memory;
+use crate::prices::INFINITE;
+use hm_base::OutOfMemory;
 
 /// How many digits a text begins with.
 fn count_digits(text: &[u8]) -> usize
@@ -123,7 +123,7 @@ fn back_price(text: &[u8]) -> Option<(u64, usize)>
         return Some((number, at));
     }
     match text {
-        [.., b'-'] => Some((CLOSED, text.len() - 1)),
+        [.., b'-'] => Some((INFINITE, text.len() - 1)),
         _ => None,
     }
 }
@@ -167,14 +167,14 @@ fn turn(row: &mut Vec<u64>)
     }
 }
 
-/// Reads the row whose line ends at a place into a list, in place of what is there, a closed price as `CLOSED`. Gives
+/// Reads the row whose line ends at a place into a list, in place of what is there, a closed price as `INFINITE`. Gives
 /// where the line begins, where each price is closed or has at most 18 digits.
 pub(crate) fn short_row_before<'a>(
     text: &'a [u8],
     end: usize,
     into: &mut Vec<u64>,
     known: &mut LeadingDigits<'a>,
-) -> Result<Option<usize>, Memory>
+) -> Result<Option<usize>, OutOfMemory>
     requires { end < length text.now }
     ensures { IfOk result (λ found. IfSome found (IsShortRow text.now end (map told into.new.items))) }
 {

@@ -4,8 +4,8 @@ ghost use Rattle.hm_cert.specs.Certificate.{certificate_text, flag_text, head_li
 ghost use Rattle.hm_cert.specs.Certificate as text;
 ghost use Rattle.hm_cert.specs.Layout.{told};
 
-use crate::prices::{CLOSED, Prices};
-use hm_base::{Format, Memory, SpellRules};
+use crate::prices::{INFINITE, Prices};
+use hm_base::{Format, OutOfMemory, SpellRules};
 use itoa::Buffer;
 use std::alloc::Global;
 
@@ -14,9 +14,9 @@ pub(crate) fn format_text(format: Format) -> &'static [u8]
     ensures { result.now ≡ text.format_text format }
 {
     match format {
-        Format::One => b"html-cert 1",
-        Format::Two => b"html-cert 2",
-        Format::Three => b"html-cert 3",
+        Format::Full => b"html-cert 1",
+        Format::Compact => b"html-cert 2",
+        Format::Sparse => b"html-cert 3",
     }
 }
 
@@ -26,7 +26,7 @@ pub fn write_certificate(
     format: Format,
     rules: SpellRules,
     prices: &Prices,
-) -> Result<Vec<u8>, Memory>
+) -> Result<Vec<u8>, OutOfMemory>
     ensures { IfOk result (λ out. out.items ≡ certificate_text format rules prices.now) }
 {
     let mut out = Vec::new(alloc);
@@ -38,7 +38,7 @@ pub fn write_certificate(
 }
 
 /// Appends the first two lines. Where memory is refused, a part may have been appended.
-pub fn put_head(out: &mut Vec<u8>, format: Format, rules: SpellRules) -> Result<(), Memory>
+pub fn put_head(out: &mut Vec<u8>, format: Format, rules: SpellRules) -> Result<(), OutOfMemory>
     ensures { OnOk result (out.new.items ≡ out.old.items ++ head_lines format rules) }
 {
     out.extend_from_slice(format_text(format))?;
@@ -53,7 +53,7 @@ pub fn put_head(out: &mut Vec<u8>, format: Format, rules: SpellRules) -> Result<
 }
 
 /// Appends a word after a space, where it is set.
-fn put_flag(out: &mut Vec<u8>, is_set: bool, word: &[u8]) -> Result<(), Memory>
+fn put_flag(out: &mut Vec<u8>, is_set: bool, word: &[u8]) -> Result<(), OutOfMemory>
     ensures { OnOk result (out.new.items ≡ out.old.items ++ flag_text is_set word.now) }
 {
     if is_set {
@@ -64,7 +64,7 @@ fn put_flag(out: &mut Vec<u8>, is_set: bool, word: &[u8]) -> Result<(), Memory>
 }
 
 /// Appends the line of a row. Where memory is refused, a part may have been appended.
-pub fn put_line(out: &mut Vec<u8>, row: &[u64]) -> Result<(), Memory>
+pub fn put_line(out: &mut Vec<u8>, row: &[u64]) -> Result<(), OutOfMemory>
     ensures { OnOk result (out.new.items ≡ out.old.items ++ row_line (map told row.now)) }
 {
     put_row(out, row)?;
@@ -73,7 +73,7 @@ pub fn put_line(out: &mut Vec<u8>, row: &[u64]) -> Result<(), Memory>
 }
 
 /// Appends prices with a space between.
-fn put_row(out: &mut Vec<u8>, row: &[u64]) -> Result<(), Memory>
+fn put_row(out: &mut Vec<u8>, row: &[u64]) -> Result<(), OutOfMemory>
     ensures { OnOk result (out.new.items ≡ out.old.items ++ row_text (map told row.now)) }
 {
     if let [first, more @ ..] = row {
@@ -84,7 +84,7 @@ fn put_row(out: &mut Vec<u8>, row: &[u64]) -> Result<(), Memory>
 }
 
 /// Appends prices, each after a space.
-fn put_more(out: &mut Vec<u8>, row: &[u64]) -> Result<(), Memory>
+fn put_more(out: &mut Vec<u8>, row: &[u64]) -> Result<(), OutOfMemory>
     ensures { OnOk result (out.new.items ≡ out.old.items ++ more_prices (map told row.now)) }
 {
     for price in row {
@@ -95,10 +95,10 @@ fn put_more(out: &mut Vec<u8>, row: &[u64]) -> Result<(), Memory>
 }
 
 /// Appends a price.
-fn put_price(out: &mut Vec<u8>, price: u64) -> Result<(), Memory>
+fn put_price(out: &mut Vec<u8>, price: u64) -> Result<(), OutOfMemory>
     ensures { OnOk result (out.new.items ≡ out.old.items ++ price_text (told price)) }
 {
-    if price == CLOSED {
+    if price == INFINITE {
         out.push(b'-')?;
     } else {
         let mut buffer = Buffer::new();

@@ -4,7 +4,7 @@ use Rattle.std.proofs.lemmas.Bool.{eq-eqb, le-ltb}
 use Rattle.std.proofs.lemmas.List.{length-map}
 use Rattle.hm_graph_laws.specs.States.{State}
 use Rattle.hm_graph_laws.specs.Units.{Unit}
-use Rattle.hm_graph_laws.specs.Layers.{LayerTest, states_behind, first_layer, written, written_from}
+use Rattle.hm_graph_laws.specs.Layers.{LayerTest, states_after, first_layer, written, written_from}
 use Rattle.hm_graph_laws.specs.Prices.{Row, first_price, least_prices, written_rows, full}
 use Rattle.hm_graph_laws.specs.Ways.{Edges, least}
 use Rattle.hm_graph_laws.proofs.LeastPrices.{least_feasible}
@@ -19,16 +19,16 @@ use Rattle.hm_check.proofs.Feasible.{feasible_high}
 least_count : (edges : Edges) (follows : LayerTest) (k : ℕ) (units : List Unit) (states : List State)
     → length (written_rows edges follows k units states (least_prices edges units states)) ≡ length (written_from edges follows k units states)
 least_count edges follows k [] states = refl
-least_count edges follows k (unit ∷ units) states = by_test (not (k == 0) && follows unit states) (least_count edges follows (suc k) units (states_behind edges unit states))
+least_count edges follows k (unit ∷ units) states = by_test (not (k == 0) && follows unit states) (least_count edges follows (suc k) units (states_after edges unit states))
   where
-    behind : List State
-    behind = states_behind edges unit states
+    after : List State
+    after = states_after edges unit states
 
     rows : List Row
-    rows = written_rows edges follows (suc k) units behind (least_prices edges units behind)
+    rows = written_rows edges follows (suc k) units after (least_prices edges units after)
 
     numbers : List ℕ
-    numbers = written_from edges follows (suc k) units behind
+    numbers = written_from edges follows (suc k) units after
 
     by_test : (b : Bool) → length rows ≡ length numbers → length (cond b rows (map (least edges (unit ∷ units)) states ∷ rows)) ≡ length (cond b numbers (k ∷ numbers))
     by_test true e = e
@@ -39,19 +39,19 @@ least_width : (edges : Edges) (follows : LayerTest) (k : ℕ) (units : List Unit
     → other_width edges follows k units states (written_rows edges follows k units states (least_prices edges units states)) ≡ None
 least_width edges follows k [] states = rw (eq-eqb (length (map (least edges []) states)) (length states) (length-map states (least edges []))) refl
 least_width edges follows k (unit ∷ units) states =
-    by_test (not (k == 0) && follows unit states) refl (least_width edges follows (suc k) units (states_behind edges unit states)) (some_written edges follows (suc k) units (states_behind edges unit states))
+    by_test (not (k == 0) && follows unit states) refl (least_width edges follows (suc k) units (states_after edges unit states)) (some_written edges follows (suc k) units (states_after edges unit states))
   where
     next : List State
-    next = states_behind edges unit states
+    next = states_after edges unit states
 
-    behind : List Row
-    behind = written_rows edges follows (suc k) units next (least_prices edges units next)
+    after : List Row
+    after = written_rows edges follows (suc k) units next (least_prices edges units next)
 
     here : Row
     here = map (least edges (unit ∷ units)) states
 
-    by_test : (b : Bool) → (not (k == 0) && follows unit states) ≡ b → other_width edges follows (suc k) units next behind ≡ None → (row : Row) × (rows : List Row) × (behind ≡ row ∷ rows)
-        → other_width edges follows k (unit ∷ units) states (cond b behind (here ∷ behind)) ≡ None
+    by_test : (b : Bool) → (not (k == 0) && follows unit states) ≡ b → other_width edges follows (suc k) units next after ≡ None → (row : Row) × (rows : List Row) × (after ≡ row ∷ rows)
+        → other_width edges follows k (unit ∷ units) states (cond b after (here ∷ after)) ≡ None
     by_test true t more (row, rows, e) =
         let left : other_width edges follows (suc k) units next (row ∷ rows) ≡ None = subst (λ r. other_width edges follows (suc k) units next r ≡ None) e more in
         rw (e, t) left

@@ -64,7 +64,7 @@ out_refused t out (refused.Page rule at) h = by_length (nat_lt OUTPUT_LIMIT (len
         let same : refusal_at rules.TooLong OUTPUT_LIMIT ≡ refusal_at rule at = cc in
         long_out t out (ltb-true OUTPUT_LIMIT (length out) e) ∙ ap (λ (x : Refusal). refused_by x.rule x.at) same
     by_length false e f = faulty_out t out rule at (ltb-false OUTPUT_LIMIT (length out) e) f
-out_refused t out refused.Memory h = tt
+out_refused t out refused.OutOfMemory h = tt
 
 -- and one that is read
 pub read_outcome : (t : List Entry) (out : List ℕ) (text : Source) (o : Outcome) → HasText OUTPUT_LIMIT out → text ≡ source_of out → tree_of_source t text ≡ o → out_outcome t out ≡ o

@@ -7,7 +7,7 @@ use Rattle.hm_base.specs.declared.plain.SpellRules.{SpellRules}
 use Rattle.hm_cert.specs.declared.certificate.Certificate.{Certificate}
 use Rattle.hm_build.specs.Trees.{built}
 use Rattle.hm_graph.specs.Graphs.{tree_edges}
-use Rattle.hm_graph_laws.specs.Layers.{LayerTest, first_layer, states_behind, written, written_from}
+use Rattle.hm_graph_laws.specs.Layers.{LayerTest, first_layer, states_after, written, written_from}
 use Rattle.hm_graph_laws.specs.Prices.{Row, Feasible, first_price, followed_by, full, full_from, with_row}
 use Rattle.hm_graph_laws.specs.States.{State}
 use Rattle.hm_graph_laws.specs.Units.{Unit, units_of}
@@ -41,40 +41,40 @@ rows_are_layers edges follows k [] states (row ∷ more ∷ rows) prices h = abs
 rows_are_layers edges follows k (unit ∷ units) states [] prices h = absurd (cc)
 rows_are_layers edges follows k (unit ∷ units) states (row ∷ rows) prices h =
     by_test (not (k == 0) && follows unit states)
-    (λ p e. rows_are_layers edges follows (suc k) units behind (row ∷ rows) p e)
-    (λ p e. rows_are_layers edges follows (suc k) units behind rows p e) h
+    (λ p e. rows_are_layers edges follows (suc k) units after (row ∷ rows) p e)
+    (λ p e. rows_are_layers edges follows (suc k) units after rows p e) h
   where
-    behind : List State
-    behind = states_behind edges unit states
+    after : List State
+    after = states_after edges unit states
 
     numbers : List ℕ
-    numbers = written_from edges follows (suc k) units behind
+    numbers = written_from edges follows (suc k) units after
 
     Leads : List Row → Type 0
-    Leads left = (p : List Row) → full_from edges follows (suc k) units behind left ≡ Some p → (length left ≡ length numbers) × (other_width edges follows (suc k) units behind left ≡ None)
+    Leads left = (p : List Row) → full_from edges follows (suc k) units after left ≡ Some p → (length left ≡ length numbers) × (other_width edges follows (suc k) units after left ≡ None)
 
     other : OtherWidth
     other = record { layer = k; got = length row; want = length states }
 
-    by_followed : (p : Option (List Row)) → full_from edges follows (suc k) units behind (row ∷ rows) ≡ p → Leads (row ∷ rows) → followed_by edges unit states p ≡ Some prices
-        → (length (row ∷ rows) ≡ length numbers) × (other_width edges follows (suc k) units behind (row ∷ rows) ≡ None)
+    by_followed : (p : Option (List Row)) → full_from edges follows (suc k) units after (row ∷ rows) ≡ p → Leads (row ∷ rows) → followed_by edges unit states p ≡ Some prices
+        → (length (row ∷ rows) ≡ length numbers) × (other_width edges follows (suc k) units after (row ∷ rows) ≡ None)
     by_followed None is leads e = absurd (cc)
     by_followed (Some p) is leads e = leads p is
 
-    by_row : (p : Option (List Row)) → full_from edges follows (suc k) units behind rows ≡ p → Leads rows → with_row row p ≡ Some prices → (length rows ≡ length numbers) × (other_width edges follows (suc k) units behind rows ≡ None)
+    by_row : (p : Option (List Row)) → full_from edges follows (suc k) units after rows ≡ p → Leads rows → with_row row p ≡ Some prices → (length rows ≡ length numbers) × (other_width edges follows (suc k) units after rows ≡ None)
     by_row None is leads e = absurd (cc)
     by_row (Some p) is leads e = leads p is
 
-    by_width_test : (b : Bool) → Leads rows → cond b (with_row row (full_from edges follows (suc k) units behind rows)) None ≡ Some prices
-        → (suc (length rows) ≡ suc (length numbers)) × (cond b (other_width edges follows (suc k) units behind rows) (Some other) ≡ None)
-    by_width_test true leads e = let more = by_row (full_from edges follows (suc k) units behind rows) refl leads e in (ap (λ n. suc n) more.0, more.1)
+    by_width_test : (b : Bool) → Leads rows → cond b (with_row row (full_from edges follows (suc k) units after rows)) None ≡ Some prices
+        → (suc (length rows) ≡ suc (length numbers)) × (cond b (other_width edges follows (suc k) units after rows) (Some other) ≡ None)
+    by_width_test true leads e = let more = by_row (full_from edges follows (suc k) units after rows) refl leads e in (ap (λ n. suc n) more.0, more.1)
     by_width_test false leads e = absurd (cc)
 
     by_test : (b : Bool) → Leads (row ∷ rows) → Leads rows
-        → cond b (followed_by edges unit states (full_from edges follows (suc k) units behind (row ∷ rows))) (cond (length row == length states) (with_row row (full_from edges follows (suc k) units behind rows)) None) ≡ Some prices
+        → cond b (followed_by edges unit states (full_from edges follows (suc k) units after (row ∷ rows))) (cond (length row == length states) (with_row row (full_from edges follows (suc k) units after rows)) None) ≡ Some prices
         → (length (row ∷ rows) ≡ length (cond b numbers (k ∷ numbers)))
-        × (cond b (other_width edges follows (suc k) units behind (row ∷ rows)) (cond (length row == length states) (other_width edges follows (suc k) units behind rows) (Some other)) ≡ None)
-    by_test true out further e = by_followed (full_from edges follows (suc k) units behind (row ∷ rows)) refl out e
+        × (cond b (other_width edges follows (suc k) units after (row ∷ rows)) (cond (length row == length states) (other_width edges follows (suc k) units after rows) (Some other)) ≡ None)
+    by_test true out further e = by_followed (full_from edges follows (suc k) units after (row ∷ rows)) refl out e
     by_test false out further e = by_width_test (length row == length states) further e
 
 -- so rows that stand for feasible prices are accepted, where the first of these bounds the text

@@ -5,7 +5,7 @@ use Rattle.std.proofs.lemmas.List.{length-map}
 use Rattle.hm_graph_laws.specs.Edges.{Edge, edge_length}
 use Rattle.hm_graph_laws.specs.States.{State}
 use Rattle.hm_graph_laws.specs.Units.{Unit}
-use Rattle.hm_graph_laws.specs.Layers.{LayerTest, first_layer, states_behind}
+use Rattle.hm_graph_laws.specs.Layers.{LayerTest, first_layer, states_after}
 use Rattle.hm_graph_laws.specs.Prices.{Row, price_at, KeepsEdge, KeepsEdges, KeepsLayer, AreZero, FeasibleFrom, has_width, row_over, with_row, followed_by, full_from}
 use Rattle.hm_graph_laws.specs.Ways.{Edges, lesser, over, best}
 use Rattle.hm_check.specs.Laws.{PriceRulesAgree}
@@ -31,12 +31,12 @@ lesser_above (Some p) (Some a) (Some b) ha hb =
     let lb : p ≤ b = ltb-false b p hb in
     le-ltb (min a b) p (omega (arith, la, lb))
 
-above_over : (price : Option ℕ) (n : ℕ) (behind : Option ℕ) → is_above price (over n behind) ≡ false → KeepsEdge price n behind
+above_over : (price : Option ℕ) (n : ℕ) (after : Option ℕ) → is_above price (over n after) ≡ false → KeepsEdge price n after
 above_over price n None h = tt
 above_over None n (Some b) h = absurd (cc)
 above_over (Some a) n (Some b) h = ltb-false (n + b) a h
 
-over_above : (price : Option ℕ) (n : ℕ) (behind : Option ℕ) → KeepsEdge price n behind → is_above price (over n behind) ≡ false
+over_above : (price : Option ℕ) (n : ℕ) (after : Option ℕ) → KeepsEdge price n after → is_above price (over n after) ≡ false
 over_above price n None h = refl
 over_above None n (Some b) h = absurd h
 over_above (Some a) n (Some b) h = le-ltb (n + b) a h
@@ -102,9 +102,9 @@ AreWide edges units states [] = ⊥
 AreWide edges [] states (row ∷ []) = length row ≡ length states
 AreWide edges [] states (row ∷ next ∷ rows) = ⊥
 AreWide edges (unit ∷ units) states (row ∷ []) = ⊥
-AreWide edges (unit ∷ units) states (row ∷ next ∷ rows) = (length row ≡ length states) × AreWide edges units (states_behind edges unit states) (next ∷ rows)
+AreWide edges (unit ∷ units) states (row ∷ next ∷ rows) = (length row ≡ length states) × AreWide edges units (states_after edges unit states) (next ∷ rows)
 
-wide_more : (edges : Edges) (unit : Unit) (units : List Unit) (states : List State) (row : Row) (rows : List Row) → length row ≡ length states → AreWide edges units (states_behind edges unit states) rows → AreWide edges (unit ∷ units) states (row ∷ rows)
+wide_more : (edges : Edges) (unit : Unit) (units : List Unit) (states : List State) (row : Row) (rows : List Row) → length row ≡ length states → AreWide edges units (states_after edges unit states) rows → AreWide edges (unit ∷ units) states (row ∷ rows)
 wide_more edges unit units states row [] w h = absurd h
 wide_more edges unit units states row (next ∷ rows) w h = (w, h)
 
@@ -120,37 +120,37 @@ full_wide edges follows k [] states (row ∷ more ∷ rows) prices h = absurd (c
 full_wide edges follows k (unit ∷ units) states [] prices h = absurd (cc)
 full_wide edges follows k (unit ∷ units) states (row ∷ rows) prices h =
     by_test (not (k == 0) && follows unit states)
-    (λ p e. full_wide edges follows (suc k) units (states_behind edges unit states) (row ∷ rows) p e)
-    (λ p e. full_wide edges follows (suc k) units (states_behind edges unit states) rows p e) h
+    (λ p e. full_wide edges follows (suc k) units (states_after edges unit states) (row ∷ rows) p e)
+    (λ p e. full_wide edges follows (suc k) units (states_after edges unit states) rows p e) h
   where
-    behind : List State
-    behind = states_behind edges unit states
+    after : List State
+    after = states_after edges unit states
 
     Leads : List Row → Type 0
-    Leads left = (p : List Row) → full_from edges follows (suc k) units behind left ≡ Some p → AreWide edges units behind p
+    Leads left = (p : List Row) → full_from edges follows (suc k) units after left ≡ Some p → AreWide edges units after p
 
-    by_followed : (p : Option (List Row)) → full_from edges follows (suc k) units behind (row ∷ rows) ≡ p → Leads (row ∷ rows) → followed_by edges unit states p ≡ Some prices → AreWide edges (unit ∷ units) states prices
+    by_followed : (p : Option (List Row)) → full_from edges follows (suc k) units after (row ∷ rows) ≡ p → Leads (row ∷ rows) → followed_by edges unit states p ≡ Some prices → AreWide edges (unit ∷ units) states prices
     by_followed None is leads e = absurd (cc)
     by_followed (Some []) is leads e = absurd (cc)
     by_followed (Some (next ∷ more)) is leads e =
-        let here : Row = row_over edges unit states (price_at behind next) in
+        let here : Row = row_over edges unit states (price_at after next) in
         let same : here ∷ next ∷ more ≡ prices = cc in
-        subst (AreWide edges (unit ∷ units) states) same (wide_more edges unit units states here (next ∷ more) (length-map states (λ s. best (price_at behind next) (edges unit s))) (leads (next ∷ more) is))
+        subst (AreWide edges (unit ∷ units) states) same (wide_more edges unit units states here (next ∷ more) (length-map states (λ s. best (price_at after next) (edges unit s))) (leads (next ∷ more) is))
 
-    by_row : (p : Option (List Row)) → full_from edges follows (suc k) units behind rows ≡ p → Leads rows → length row ≡ length states → with_row row p ≡ Some prices → AreWide edges (unit ∷ units) states prices
+    by_row : (p : Option (List Row)) → full_from edges follows (suc k) units after rows ≡ p → Leads rows → length row ≡ length states → with_row row p ≡ Some prices → AreWide edges (unit ∷ units) states prices
     by_row None is leads w e = absurd (cc)
     by_row (Some more) is leads w e =
         let same : row ∷ more ≡ prices = cc in
         subst (AreWide edges (unit ∷ units) states) same (wide_more edges unit units states row more w (leads more is))
 
-    by_width : (b : Bool) → has_width states row ≡ b → Leads rows → cond b (with_row row (full_from edges follows (suc k) units behind rows)) None ≡ Some prices → AreWide edges (unit ∷ units) states prices
-    by_width true w leads e = by_row (full_from edges follows (suc k) units behind rows) refl leads (eqb-true (length row) (length states) w) e
+    by_width : (b : Bool) → has_width states row ≡ b → Leads rows → cond b (with_row row (full_from edges follows (suc k) units after rows)) None ≡ Some prices → AreWide edges (unit ∷ units) states prices
+    by_width true w leads e = by_row (full_from edges follows (suc k) units after rows) refl leads (eqb-true (length row) (length states) w) e
     by_width false w leads e = absurd (cc)
 
     by_test : (b : Bool) → Leads (row ∷ rows) → Leads rows
-        → cond b (followed_by edges unit states (full_from edges follows (suc k) units behind (row ∷ rows))) (cond (has_width states row) (with_row row (full_from edges follows (suc k) units behind rows)) None) ≡ Some prices
+        → cond b (followed_by edges unit states (full_from edges follows (suc k) units after (row ∷ rows))) (cond (has_width states row) (with_row row (full_from edges follows (suc k) units after rows)) None) ≡ Some prices
         → AreWide edges (unit ∷ units) states prices
-    by_test true out further e = by_followed (full_from edges follows (suc k) units behind (row ∷ rows)) refl out e
+    by_test true out further e = by_followed (full_from edges follows (suc k) units after (row ∷ rows)) refl out e
     by_test false out further e = by_width (has_width states row) refl further e
 
 none_of_two : (a b : Option HighPrice) → or_else a b ≡ None → (a ≡ None) × (b ≡ None)
@@ -164,9 +164,9 @@ high_feasible edges k [] states (row ∷ []) w h = end_zero k 0 states row w h
 high_feasible edges k [] states (row ∷ next ∷ rows) w h = absurd w
 high_feasible edges k (unit ∷ units) states (row ∷ []) w h = absurd w
 high_feasible edges k (unit ∷ units) states (row ∷ next ∷ rows) w h =
-    let behind : List State = states_behind edges unit states in
-    let two = none_of_two (high_in k 0 row (bounds_of edges unit states next)) (high_price edges (suc k) units behind (next ∷ rows)) h in
-    (high_keeps edges unit (price_at behind next) k 0 states row w.0 two.0, high_feasible edges (suc k) units behind (next ∷ rows) w.1 two.1)
+    let after : List State = states_after edges unit states in
+    let two = none_of_two (high_in k 0 row (bounds_of edges unit states next)) (high_price edges (suc k) units after (next ∷ rows)) h in
+    (high_keeps edges unit (price_at after next) k 0 states row w.0 two.0, high_feasible edges (suc k) units after (next ∷ rows) w.1 two.1)
 
 -- rows that keep the rules have no price above its bound
 pub feasible_high : (edges : Edges) (k : ℕ) (units : List Unit) (states : List State) (prices : List Row) → FeasibleFrom edges units states prices → high_price edges k units states prices ≡ None
@@ -175,8 +175,8 @@ feasible_high edges k [] states (row ∷ []) f = zero_end k 0 states row f
 feasible_high edges k [] states (row ∷ next ∷ rows) f = absurd f
 feasible_high edges k (unit ∷ units) states (row ∷ []) f = absurd f
 feasible_high edges k (unit ∷ units) states (row ∷ next ∷ rows) f =
-    let behind : List State = states_behind edges unit states in
-    rw (keeps_high edges unit (price_at behind next) k 0 states row f.0) (feasible_high edges (suc k) units behind (next ∷ rows) f.1)
+    let after : List State = states_after edges unit states in
+    rw (keeps_high edges unit (price_at after next) k 0 states row f.0) (feasible_high edges (suc k) units after (next ∷ rows) f.1)
 
 -- so both rules of prices are one, for the rows that written ones stand for
 pub price_rules_agree : PriceRulesAgree

@@ -98,8 +98,8 @@ way_character t step c old new copies text place u more steps own on =
     )
 
 -- the bytes are a way over the steps that copy them
-pub way_behind : (t : List Entry) (step : Step) (front : List ℕ) (old new : Followed) → Copies old.place (get_or step old.place []) → IsAscii front → old.rest.now ≡ front ++ new.rest.now → new.place ≡ old.place → GoesOverAlike t step front old new
-way_behind t step front old new copies ascii text place = λ kind rest more steps on.
+pub way_after : (t : List Entry) (step : Step) (front : List ℕ) (old new : Followed) → Copies old.place (get_or step old.place []) → IsAscii front → old.rest.now ≡ front ++ new.rest.now → new.place ≡ old.place → GoesOverAlike t step front old new
+way_after t step front old new copies ascii text place = λ kind rest more steps on.
     subst (WayOver (piece_bytes t) (character_units kind (front ++ rest) ++ more) (replicate (length front) step ++ steps) old.place) (sym text)
     (way_copied t kind front rest more step steps old.place new.rest.now copies ascii (subst (λ p. WayOver (piece_bytes t) (character_units kind rest ++ more) steps p new.rest.now) place on))
 

@@ -4,7 +4,7 @@ use Rattle.hm_base.specs.declared.plain.Format.{Format}
 use Rattle.hm_graph_laws.specs.States.{State}
 use Rattle.hm_graph_laws.specs.Units.{Unit}
 use Rattle.hm_edges.specs.declared.pieces.Piece.{Piece}
-use Rattle.hm_graph_laws.specs.Layers.{states_behind, first_layer, written, written_from}
+use Rattle.hm_graph_laws.specs.Layers.{states_after, first_layer, written, written_from}
 use Rattle.hm_graph_laws.specs.Prices.{Row, price_at, full}
 use Rattle.hm_graph_laws.specs.Ways.{Edges}
 use Rattle.hm_graph.specs.Fits.{StepsFit}
@@ -30,7 +30,7 @@ count_agrees edges bytes [] states [] last format k h = refl
 count_agrees edges bytes [] states (step ∷ steps) last format k h = absurd h
 count_agrees edges bytes (unit ∷ units) states [] last format k h = absurd h
 count_agrees edges bytes (unit ∷ units) states (step ∷ steps) last format k h =
-    let next : List State = states_behind edges unit states in
+    let next : List State = states_after edges unit states in
     let numbers : List ℕ = written_from edges (follows_by format edges) (suc k) units next in
     let more : count_over format (suc k) steps ≡ length numbers = count_agrees edges bytes units next steps last format (suc k) h.1 in
     (λ i. cond (left_out_agrees edges (bytes unit) next format k unit states step h.0 i) (more i) (suc (more i)))
@@ -44,7 +44,7 @@ width_found edges bytes [] states [] last format k (row ∷ rows) h = λ i. cond
 width_found edges bytes [] states (step ∷ steps) last format k (row ∷ rows) h = absurd h
 width_found edges bytes (unit ∷ units) states [] last format k (row ∷ rows) h = absurd h
 width_found edges bytes (unit ∷ units) states (step ∷ steps) last format k (row ∷ rows) h =
-    let next : List State = states_behind edges unit states in
+    let next : List State = states_after edges unit states in
     let follows : other_width_over format (suc k) last steps (row ∷ rows) ≡ other_width edges (follows_by format edges) (suc k) units next (row ∷ rows) = width_found edges bytes units next steps last format (suc k) (row ∷ rows) h.1 in
     let more : other_width_over format (suc k) last steps rows ≡ other_width edges (follows_by format edges) (suc k) units next rows = width_found edges bytes units next steps last format (suc k) rows h.1 in
     let width : length step ≡ length states = width_agrees (bytes unit) next (edges unit) states step h.0 in
@@ -59,9 +59,9 @@ high_found edges bytes [] states (step ∷ steps) last k (row ∷ rows) h = absu
 high_found edges bytes (unit ∷ units) states [] last k (row ∷ rows) h = absurd h
 high_found edges bytes (unit ∷ units) states (step ∷ steps) last k (row ∷ []) h = refl
 high_found edges bytes (unit ∷ units) states (step ∷ steps) last k (row ∷ next ∷ rows) h =
-    let behind : List State = states_behind edges unit states in
-    let more : high_price_over (suc k) steps (next ∷ rows) ≡ high_price edges (suc k) units behind (next ∷ rows) = high_found edges bytes units behind steps last (suc k) (next ∷ rows) h.1 in
-    λ i. or_else (high_in k 0 row (row_agrees (bytes unit) behind next (price_at behind next) (edges unit) states step (tells_price behind next) h.0 i)) (more i)
+    let after : List State = states_after edges unit states in
+    let more : high_price_over (suc k) steps (next ∷ rows) ≡ high_price edges (suc k) units after (next ∷ rows) = high_found edges bytes units after steps last (suc k) (next ∷ rows) h.1 in
+    λ i. or_else (high_in k 0 row (row_agrees (bytes unit) after next (price_at after next) (edges unit) states step (tells_price after next) h.0 i)) (more i)
 
 full_found : (edges : Edges) (bytes : Unit → Piece → List ℕ) (units : List Unit) (steps : List Step) (last n : ℕ) (prices : Option (List Row))
     → StepsFit edges bytes units first_layer steps last → by_full_over n steps prices ≡ by_full edges n units prices

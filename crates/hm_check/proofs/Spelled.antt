@@ -5,7 +5,7 @@ use Rattle.hm_base.specs.declared.limits.TheConstants.{OUTPUT_LIMIT}
 use Rattle.hm_base.specs.declared.plain.SpellRules.{SpellRules}
 use Rattle.hm_cert.specs.declared.certificate.Certificate.{Certificate}
 use Rattle.hm_base.specs.declared.plain.Format.{Format}
-use Rattle.hm_base.specs.declared.plain.Format.TheVariants.{One, Two, Three}
+use Rattle.hm_base.specs.declared.plain.Format.TheVariants.{Full, Compact, Sparse}
 use Rattle.hm_edges.specs.Pieces.{piece_bytes}
 use Rattle.hm_elements.specs.Settled.{Settled}
 use Rattle.hm_graph_laws.specs.Layers.{first_layer}
@@ -13,7 +13,7 @@ use Rattle.hm_graph_laws.specs.UnitEdges.{edges_of}
 use Rattle.hm_graph_laws.specs.Ways.{Edges, Way}
 use Rattle.hm_graph.specs.Graphs.{GraphView, IsGraph, source_edges}
 use Rattle.hm_optimality_laws.specs.Formats.{edges_by, kept_by}
-use Rattle.hm_optimality_laws.specs.Outdone.{Dominance, dominance, is_outdone, kept_behind}
+use Rattle.hm_optimality_laws.specs.Dominated.{Dominance, dominance, is_dominated, kept_after}
 use Rattle.hm_refs.specs.Names.{Entry}
 use Rattle.hm_refs.specs.Tables.{IsIn, IsTable, TableView, first, later}
 use Rattle.hm_spelling_spec.specs.Spellings.{Spells, other}
@@ -37,18 +37,18 @@ in_either : (e x : Edge) (ys es : List Edge) → IsIn e (x ∷ ys) → (IsIn e y
 in_either e x ys es (first zs) more = first es
 in_either e x ys es (later y zs i) more = later x es (more i)
 
-kept_in : (d : Dominance) (unit : Unit) (e : Edge) (before es : List Edge) → IsIn e (kept_behind d unit before es) → IsIn e es
+kept_in : (d : Dominance) (unit : Unit) (e : Edge) (before es : List Edge) → IsIn e (kept_after d unit before es) → IsIn e es
 kept_in d unit e before [] i = i
-kept_in d unit e before (x ∷ es) i = by_test (is_outdone d unit before x es) i (kept_in d unit e (x ∷ before) es)
+kept_in d unit e before (x ∷ es) i = by_test (is_dominated d unit before x es) i (kept_in d unit e (x ∷ before) es)
   where
-    by_test : (b : Bool) → IsIn e (cond b (kept_behind d unit (x ∷ before) es) (x ∷ kept_behind d unit (x ∷ before) es)) → (IsIn e (kept_behind d unit (x ∷ before) es) → IsIn e es) → IsIn e (x ∷ es)
+    by_test : (b : Bool) → IsIn e (cond b (kept_after d unit (x ∷ before) es) (x ∷ kept_after d unit (x ∷ before) es)) → (IsIn e (kept_after d unit (x ∷ before) es) → IsIn e es) → IsIn e (x ∷ es)
     by_test true j more = later x es (more j)
-    by_test false j more = in_either e x (kept_behind d unit (x ∷ before) es) es j more
+    by_test false j more = in_either e x (kept_after d unit (x ∷ before) es) es j more
 
 edge_in : (format : Format) (t : List Entry) (unit : Unit) (e : Edge) (es : List Edge) → IsIn e (kept_by format t unit es) → IsIn e es
-edge_in One t unit e es i = i
-edge_in Two t unit e es i = i
-edge_in Three t unit e es i = kept_in (dominance t) unit e [] es i
+edge_in Full t unit e es i = i
+edge_in Compact t unit e es i = i
+edge_in Sparse t unit e es i = kept_in (dominance t) unit e [] es i
 
 -- a way of a format's graph is a way of the whole one
 way_in : (format : Format) (t : List Entry) (edges : Edges) (units : List Unit) (s : State) (b : List ℕ) → Way (edges_by format t edges) units s b → Way edges units s b

@@ -42,10 +42,10 @@ record AreRight (g : GraphView) (rows : List Row) (k at : ℕ) (why : Option Why
   pub turned : turns + k ≡ length g.steps
   pub below : AreBelow (2 ^ 63 + turns * 2 ^ 33) row
 
-are_right : (g : GraphView) (rows : List Row) (k : ℕ) (s : Sweep) → IsSwept g rows k s → s.found.right ≡ true → AreRight g rows k s.at.row s.found.why (map told s.behind.items)
+are_right : (g : GraphView) (rows : List Row) (k : ℕ) (s : Sweep) → IsSwept g rows k s → s.found.right ≡ true → AreRight g rows k s.at.row s.found.why (map told s.next_row.items)
 are_right g rows k s h right = by_known (other_width_over g.source.format k g.last (drop k g.steps) (drop s.at.row rows)) refl h.known
   where
-    by_known : (o : Option OtherWidth) → other_width_over g.source.format k g.last (drop k g.steps) (drop s.at.row rows) ≡ o → AreKnown g rows k s o → AreRight g rows k s.at.row s.found.why (map told s.behind.items)
+    by_known : (o : Option OtherWidth) → other_width_over g.source.format k g.last (drop k g.steps) (drop s.at.row rows) ≡ o → AreKnown g rows k s o → AreRight g rows k s.at.row s.found.why (map told s.next_row.items)
     by_known (Some w) e p = absurd (cc)
     by_known None e p = record {
       written = h.written;
@@ -58,7 +58,7 @@ are_right g rows k s h right = by_known (other_width_over g.source.format k g.la
       below = p.1.below;
     }
 
-is_swept : (g : GraphView) (rows : List Row) (k : ℕ) (t : Sweep) → IsRowPlace rows t.at → t.found.right ≡ true → AreRight g rows k t.at.row t.found.why (map told t.behind.items) → IsSwept g rows k t
+is_swept : (g : GraphView) (rows : List Row) (k : ℕ) (t : Sweep) → IsRowPlace rows t.at → t.found.right ≡ true → AreRight g rows k t.at.row t.found.why (map told t.next_row.items) → IsSwept g rows k t
 is_swept g rows k t place right h = record {
   place = place;
   written = h.written;
@@ -84,12 +84,12 @@ out_right g rows k at why row within low out h =
     let there : at < length rows = has_row g rows (k + 1) at h.written in
     let cut : drop k g.steps ≡ step ∷ steps = drop_more g.steps k [] within in
     let left : drop at rows ≡ get_or rows at [] ∷ drop (at + 1) rows = drop_more rows at [] there in
-    let behind : full_rows g.source.format (k + 1) g.last steps (get_or rows at [] ∷ drop (at + 1) rows) ≡ Some (row ∷ h.more) = subst (λ r. full_rows g.source.format (k + 1) g.last steps r ≡ Some (row ∷ h.more)) left h.full in
+    let next_row : full_rows g.source.format (k + 1) g.last steps (get_or rows at [] ∷ drop (at + 1) rows) ≡ Some (row ∷ h.more) = subst (λ r. full_rows g.source.format (k + 1) g.last steps r ≡ Some (row ∷ h.more)) left h.full in
     record {
       written = omega (arith, h.written, counted_out g.source.format k g.steps within out);
       widths = wide_out g.source.format g.last k at g.steps rows within there out ∙ h.widths;
       more = row ∷ h.more;
-      full = (λ i. full_rows g.source.format k g.last (cut i) (left i)) ∙ out_full g.source.format k g.last step steps (get_or rows at []) row (drop (at + 1) rows) h.more out behind;
+      full = (λ i. full_rows g.source.format k g.last (cut i) (left i)) ∙ out_full g.source.format k g.last step steps (get_or rows at []) row (drop (at + 1) rows) h.more out next_row;
       found = h.found ∙ ap (option_map high_why) (sym (out_high k step steps row h.more)) ∙ sym (λ i. option_map high_why (high_price_over k (cut i) (row_over row step ∷ row ∷ h.more)));
       turns = h.turns + 1;
       turned = omega (arith, h.turned);
@@ -110,21 +110,21 @@ along_right g rows (suc n) k at why row len low some inside still h =
     let first : AreStillOver g.source.format (step ∷ drop (k + 1) g.steps) (suc n) (length row) len = subst (λ steps. AreStillOver g.source.format steps (suc n) (length row) len) cut still in
     let own : ℕ = first.0 in
     let rest : ℕ = first.1 in
-    let behind : Row = map (over rest) row in
-    let more : AreRight g rows (k + 1) at why behind =
+    let next_row : Row = map (over rest) row in
+    let more : AreRight g rows (k + 1) at why next_row =
     along_right g rows n (k + 1) at why row rest low (omega arith) (omega (arith, inside)) first.6 (subst (λ j. AreRight g rows j at why row) next h) in
     let out : is_left_out g.source.format k step ≡ true = out_later g.source.format k step some ∙ first.4 in
-    let width : length behind ≡ length step = length-map row (over rest) ∙ sym first.3 in
-    let prices : row_over behind step ≡ map (over len) row = still_row behind own step width first.5 ∙ sym (each_sum own rest row) ∙ ap (λ m. map (over m) row) (sym first.2) in
-    subst (AreRight g rows k at why) prices (out_right g rows k at why behind (omega (arith, inside)) low out more)
+    let width : length next_row ≡ length step = length-map row (over rest) ∙ sym first.3 in
+    let prices : row_over next_row step ≡ map (over len) row = still_row next_row own step width first.5 ∙ sym (each_sum own rest row) ∙ ap (λ m. map (over m) row) (sym first.2) in
+    subst (AreRight g rows k at why) prices (out_right g rows k at why next_row (omega (arith, inside)) low out more)
 
-pub along_swept : (g : GraphView) (rows : List Row) (k front len : ℕ) (s t : Sweep) → AreLow g.steps → 0 < front → front ≤ k → k ≤ length g.steps → AreStillOver g.source.format (drop front g.steps) (k - front) (length s.behind.items) len → s.found.right ≡ true
-    → IsSwept g rows k s → t.at ≡ s.at → t.found ≡ s.found → map told t.behind.items ≡ map (over len) (map told s.behind.items) → IsSwept g rows front t
+pub along_swept : (g : GraphView) (rows : List Row) (k front len : ℕ) (s t : Sweep) → AreLow g.steps → 0 < front → front ≤ k → k ≤ length g.steps → AreStillOver g.source.format (drop front g.steps) (k - front) (length s.next_row.items) len → s.found.right ≡ true
+    → IsSwept g rows k s → t.at ≡ s.at → t.found ≡ s.found → map told t.next_row.items ≡ map (over len) (map told s.next_row.items) → IsSwept g rows front t
 along_swept g rows k front len s t low some within inside still right h at found row =
     let end : k ≡ front + (k - front) = omega (arith, within) in
-    let width : length s.behind.items ≡ length (map told s.behind.items) = sym (length-map s.behind.items told) in
-    let all : AreRight g rows front s.at.row s.found.why (map (over len) (map told s.behind.items)) =
-    along_right g rows (k - front) front s.at.row s.found.why (map told s.behind.items) len low some (omega (arith, within, inside)) (subst (λ w. AreStillOver g.source.format (drop front g.steps) (k - front) w len) width still)
-    (subst (λ j. AreRight g rows j s.at.row s.found.why (map told s.behind.items)) end (are_right g rows k s h right)) in
+    let width : length s.next_row.items ≡ length (map told s.next_row.items) = sym (length-map s.next_row.items told) in
+    let all : AreRight g rows front s.at.row s.found.why (map (over len) (map told s.next_row.items)) =
+    along_right g rows (k - front) front s.at.row s.found.why (map told s.next_row.items) len low some (omega (arith, within, inside)) (subst (λ w. AreStillOver g.source.format (drop front g.steps) (k - front) w len) width still)
+    (subst (λ j. AreRight g rows j s.at.row s.found.why (map told s.next_row.items)) end (are_right g rows k s h right)) in
     is_swept g rows front t (subst (IsRowPlace rows) (sym at) h.place) (ap (λ x. x.right) found ∙ right)
     (subst (λ A. A) (λ i. AreRight g rows front (sym at i).row (sym found i).why (sym row i)) all)

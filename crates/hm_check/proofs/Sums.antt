@@ -57,9 +57,9 @@ told_lesser a b ha hb = by_left (a == 18446744073709551615) refl
     by_left false e = by_right (eqb-false a 18446744073709551615 e) (b == 18446744073709551615) refl
 
 -- the price that a sum stands for
-pub told_over : (behind : List ℕ) (h : Hop) (p : ℕ) → slice_get behind h.to ≡ Some p → p ≢ 18446744073709551615 → p + h.len ≢ 18446744073709551615 → told (p + h.len) ≡ price_over (map told behind) h
-told_over behind h p there open_price open_sum =
-    number_told (p + h.len) open_sum ∙ ap Some (omega arith) ∙ sym (ap (over h.len) (told_at behind h.to p there ∙ number_told p open_price))
+pub told_over : (next_row : List ℕ) (h : Hop) (p : ℕ) → slice_get next_row h.to ≡ Some p → p ≢ 18446744073709551615 → p + h.len ≢ 18446744073709551615 → told (p + h.len) ≡ price_over (map told next_row) h
+told_over next_row h p there open_price open_sum =
+    number_told (p + h.len) open_sum ∙ ap Some (omega arith) ∙ sym (ap (over h.len) (told_at next_row h.to p there ∙ number_told p open_price))
 
 pub lesser_assoc : (a b c : Option ℕ) → lesser (lesser a b) c ≡ lesser a (lesser b c)
 lesser_assoc None b c = refl
@@ -68,13 +68,13 @@ lesser_assoc (Some a) (Some b) None = refl
 lesser_assoc (Some a) (Some b) (Some c) = ap Some (omega arith)
 
 -- what is best so far, one hop on
-pub best_turn : (best price best_then : ℕ) (behind : Row) (h : Hop) (hops : List Hop) (i : ℕ) → i < length hops → h ≡ get_or hops i h → best_then ≡ min best price → best ≤ 18446744073709551615 → price ≤ 18446744073709551615 → told price ≡ price_over behind h
-    → lesser (told best_then) (best_price behind (drop (i + 1) hops)) ≡ lesser (told best) (best_price behind (drop i hops))
-best_turn best price best_then behind h hops i within here is hb hp e =
-    ap (λ q. lesser q (best_price behind (drop (i + 1) hops))) (ap told is ∙ told_lesser best price hb hp ∙ ap (lesser (told best)) e)
-    ∙ lesser_assoc (told best) (price_over behind h) (best_price behind (drop (i + 1) hops))
-    ∙ ap (λ x. lesser (told best) (best_price behind (x ∷ drop (i + 1) hops))) here
-    ∙ ap (λ xs. lesser (told best) (best_price behind xs)) (sym (drop_more hops i h within))
+pub best_turn : (best price best_then : ℕ) (next_row : Row) (h : Hop) (hops : List Hop) (i : ℕ) → i < length hops → h ≡ get_or hops i h → best_then ≡ min best price → best ≤ 18446744073709551615 → price ≤ 18446744073709551615 → told price ≡ price_over next_row h
+    → lesser (told best_then) (best_price next_row (drop (i + 1) hops)) ≡ lesser (told best) (best_price next_row (drop i hops))
+best_turn best price best_then next_row h hops i within here is hb hp e =
+    ap (λ q. lesser q (best_price next_row (drop (i + 1) hops))) (ap told is ∙ told_lesser best price hb hp ∙ ap (lesser (told best)) e)
+    ∙ lesser_assoc (told best) (price_over next_row h) (best_price next_row (drop (i + 1) hops))
+    ∙ ap (λ x. lesser (told best) (best_price next_row (x ∷ drop (i + 1) hops))) here
+    ∙ ap (λ xs. lesser (told best) (best_price next_row xs)) (sym (drop_more hops i h within))
 
 -- ---- Prices below a number
 
@@ -87,8 +87,8 @@ below_more n m (price ∷ row) h b = (one price b.0, below_more n m row h b.1)
     one (Some q) k = omega (arith, k, h)
 
 -- a number in a row below n is below it
-pub number_below : (behind : List ℕ) (i p n : ℕ) → slice_get behind i ≡ Some p → p ≢ 18446744073709551615 → AreBelow n (map told behind) → p < n
-number_below behind i p n there open_price below = subst (IsBelow n) (told_at behind i p there ∙ number_told p open_price) (below_in (map told behind) n i below)
+pub number_below : (next_row : List ℕ) (i p n : ℕ) → slice_get next_row i ≡ Some p → p ≢ 18446744073709551615 → AreBelow n (map told next_row) → p < n
+number_below next_row i p n there open_price below = subst (IsBelow n) (told_at next_row i p there ∙ number_told p open_price) (below_in (map told next_row) n i below)
 
 lesser_below : (n : ℕ) (a b : Option ℕ) → IsBelow n a → IsBelow n b → IsBelow n (lesser a b)
 lesser_below n None b ha hb = hb
@@ -99,15 +99,15 @@ over_below : (n m len : ℕ) (price : Option ℕ) → len < m → IsBelow n pric
 over_below n m len None h b = tt
 over_below n m len (Some p) h b = omega (arith, h, b)
 
-best_below : (n : ℕ) (behind : Row) (hops : List Hop) → AreBelow n behind → AreLowHops hops → IsBelow (n + 2 ^ 33) (best_price behind hops)
-best_below n behind [] b low = tt
-best_below n behind (h ∷ hops) b low =
-    lesser_below (n + 2 ^ 33) (price_over behind h) (best_price behind hops) (over_below n (2 ^ 33) h.len (get_or behind h.to None) low.0 (below_in behind n h.to b)) (best_below n behind hops b low.1)
+best_below : (n : ℕ) (next_row : Row) (hops : List Hop) → AreBelow n next_row → AreLowHops hops → IsBelow (n + 2 ^ 33) (best_price next_row hops)
+best_below n next_row [] b low = tt
+best_below n next_row (h ∷ hops) b low =
+    lesser_below (n + 2 ^ 33) (price_over next_row h) (best_price next_row hops) (over_below n (2 ^ 33) h.len (get_or next_row h.to None) low.0 (below_in next_row n h.to b)) (best_below n next_row hops b low.1)
 
 -- the prices before a step
-pub row_below : (n : ℕ) (behind : Row) (step : Step) → AreBelow n behind → IsLowStep step → AreBelow (n + 2 ^ 33) (row_over behind step)
-row_below n behind [] b low = tt
-row_below n behind (hops ∷ step) b low = (best_below n behind hops b low.0, row_below n behind step b low.1)
+pub row_below : (n : ℕ) (next_row : Row) (step : Step) → AreBelow n next_row → IsLowStep step → AreBelow (n + 2 ^ 33) (row_over next_row step)
+row_below n next_row [] b low = tt
+row_below n next_row (hops ∷ step) b low = (best_below n next_row hops b low.0, row_below n next_row step b low.1)
 
 -- prices that can be written
 pub written_below : (row : Row) → ArePrices row → AreBelow (2 ^ 63) row

@@ -1,6 +1,6 @@
 -- What is wrong with the rows of a certificate.
 use Rattle.std.specs.Prelude.{ℕ, suc, Bool, true, false, not, ◌&&◌, ◌==◌, nat_lt, List, [], ◌∷◌, length, map, Option, Some, None, if◌then◌else◌}
-use Rattle.hm_graph_laws.specs.Layers.{LayerTest, states_behind}
+use Rattle.hm_graph_laws.specs.Layers.{LayerTest, states_after}
 use Rattle.hm_graph_laws.specs.Prices.{Row, price_at}
 use Rattle.hm_graph_laws.specs.Ways.{Edges, best}
 use Rattle.hm_graph_laws.specs.States.{State}
@@ -18,8 +18,8 @@ abbrev pub other_width : Edges → LayerTest → ℕ → List Unit → List Stat
 other_width edges follows k units states [] = None
 other_width edges follows k [] states (row ∷ rows) = if length row == length states then None else Some (record { layer = k; got = length row; want = length states })
 other_width edges follows k (unit ∷ units) states (row ∷ rows) =
-    if not (k == 0) && follows unit states then other_width edges follows (suc k) units (states_behind edges unit states) (row ∷ rows)
-    else if length row == length states then other_width edges follows (suc k) units (states_behind edges unit states) rows
+    if not (k == 0) && follows unit states then other_width edges follows (suc k) units (states_after edges unit states) (row ∷ rows)
+    else if length row == length states then other_width edges follows (suc k) units (states_after edges unit states) rows
     else Some (record { layer = k; got = length row; want = length states })
 
 -- A price above its bound: a number above a number, or a closed price where the bound is a number.
@@ -56,7 +56,7 @@ or_else (Some found) other = Some found
 
 -- the bounds of the states of a layer, by the next layer's prices
 abbrev pub bounds_of : Edges → Unit → List State → Row → Row
-bounds_of edges unit states behind = map (λ s. best (price_at (states_behind edges unit states) behind) (edges unit s)) states
+bounds_of edges unit states next_row = map (λ s. best (price_at (states_after edges unit states) next_row) (edges unit s)) states
 
 -- the first price above its bound, from layer k on
 abbrev pub high_price : Edges → ℕ → List Unit → List State → List Row → Option HighPrice
@@ -64,4 +64,4 @@ high_price edges k units states [] = None
 high_price edges k [] states (row ∷ rows) = high_at_end k 0 row
 high_price edges k (unit ∷ units) states (row ∷ []) = None
 high_price edges k (unit ∷ units) states (row ∷ next ∷ rows) =
-    or_else (high_in k 0 row (bounds_of edges unit states next)) (high_price edges (suc k) units (states_behind edges unit states) (next ∷ rows))
+    or_else (high_in k 0 row (bounds_of edges unit states next)) (high_price edges (suc k) units (states_after edges unit states) (next ∷ rows))

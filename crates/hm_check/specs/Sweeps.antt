@@ -36,8 +36,8 @@ IsStillOver step len = AreStill len step × (len < 2 ^ 33)
 
 -- what is found with the row of layer k added, by the next layer's prices
 abbrev pub judged : SweepFound → ℕ → Row → Row → Step → SweepFound
-judged found k row behind step =
-    if length row == length step then (if found.right then record { right = true; why = option_or (option_map high_why (high_in k 0 row (row_over behind step))) found.why } else found)
+judged found k row next_row step =
+    if length row == length step then (if found.right then record { right = true; why = option_or (option_map high_why (high_in k 0 row (row_over next_row step))) found.why } else found)
     else record { right = false; why = Some (WrongWidth k (length row) (length step)) }
 
 -- what is found of the row of the last layer, layer k
@@ -50,11 +50,11 @@ judged_at_end k row last =
 -- of these prices above its bound is found.
 pub record ArePriced (g : GraphView) (rows : List Row) (k : ℕ) (s : Sweep) : Type 0 where
   pub more : List Row
-  pub full : full_rows g.source.format k g.last (drop k g.steps) (drop s.at.row rows) ≡ Some (map told s.behind.items ∷ more)
-  pub found : s.found.why ≡ option_map high_why (high_price_over k (drop k g.steps) (map told s.behind.items ∷ more))
+  pub full : full_rows g.source.format k g.last (drop k g.steps) (drop s.at.row rows) ≡ Some (map told s.next_row.items ∷ more)
+  pub found : s.found.why ≡ option_map high_why (high_price_over k (drop k g.steps) (map told s.next_row.items ∷ more))
   pub turns : ℕ
   pub turned : turns + k ≡ length g.steps
-  pub below : AreBelow (2 ^ 63 + turns * 2 ^ 33) (map told s.behind.items)
+  pub below : AreBelow (2 ^ 63 + turns * 2 ^ 33) (map told s.next_row.items)
 
 -- what is known of the rows after the first ones, by the first of them that has another width
 abbrev pub AreKnown : GraphView → List Row → ℕ → Sweep → Option OtherWidth → Type 0

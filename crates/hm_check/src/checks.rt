@@ -12,7 +12,7 @@ use crate::followed::graph_followed;
 use crate::rows::by_rows;
 use crate::trees::find_difference;
 use crate::{Verdict, Why};
-use hm_base::{Format, Memory, OUTPUT_LIMIT, SpellRules};
+use hm_base::{Format, OUTPUT_LIMIT, OutOfMemory, SpellRules};
 use hm_cert::Certificate;
 use hm_graph::Graph;
 use hm_graph::laws::every_graph;
@@ -40,7 +40,7 @@ fn by_certificate(
     certificate: &Certificate,
     rules: SpellRules,
     length: u64,
-) -> Result<Verdict, Memory>
+) -> Result<Verdict, OutOfMemory>
     requires { AreRows certificate.now.prices }
     ensures { IfOk result (λ found. found ≡ verdicts.by_rows (tree_edges table.now.entries rules certificate.now.format)
         (follows_by certificate.now.format (tree_edges table.now.entries rules certificate.now.format)) length (units_of rules wanted.now) certificate.now.prices) }
@@ -61,7 +61,7 @@ pub fn check(
     out: &[u8],
     certificate: &Certificate,
     rules: SpellRules,
-) -> Result<Verdict, Memory>
+) -> Result<Verdict, OutOfMemory>
     requires { AreRows certificate.now.prices }
     ensures { IfOk result (λ found. found ≡ verdict table.now.entries rules wanted.now out.now certificate.now) }
 {
@@ -73,7 +73,7 @@ pub fn check(
     match find_difference(alloc, table, wanted, out) {
         Ok(None) => by_certificate(alloc, table, wanted, certificate, rules, out.len() as u64),
         Ok(Some(why)) => Ok(Verdict::No { why }),
-        Err(Memory) => Err(Memory),
+        Err(OutOfMemory) => Err(OutOfMemory),
     }
 }
 
@@ -90,13 +90,13 @@ pub fn check_settled<'t>(
     out: &[u8],
     certificate: &Certificate,
     rules: SpellRules,
-) -> Result<Verdict, Memory>
+) -> Result<Verdict, OutOfMemory>
     requires rows { AreRows certificate.now.prices }
     requires settled { Settled wanted.now }
     ensures { IfOk result (λ found. found ≡ verdict table.now.entries rules wanted.now out.now certificate.now) }
 {
     every_table(table);
-    let is_sparse = certificate.format == Format::Three;
+    let is_sparse = certificate.format == Format::Sparse;
     let has_many_events = out.len() / BYTES_AN_EVENT <= wanted.len() as usize;
     if is_sparse
         && has_many_events

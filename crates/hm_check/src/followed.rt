@@ -4,8 +4,8 @@ ghost use Rattle.std.specs.Str.{IsAscii};
 ghost use Rattle.hm_edges.specs.Pieces.{HasName, own_bytes, piece_bytes, piece_text, with_gap, with_opening};
 ghost use Rattle.hm_graph.specs.Copied.{Copies};
 ghost use Rattle.hm_graph.specs.Graphs.{AreNamedHops, IsNamedStep};
-ghost use Rattle.hm_parts.specs.Parts.{comment_bytes};
-ghost use Rattle.hm_parts.specs.Own.{own_text};
+ghost use Rattle.hm_event_parts.specs.Parts.{comment_bytes};
+ghost use Rattle.hm_event_parts.specs.UnitText.{own_text};
 ghost use Rattle.hm_refs.specs.Names.{Entry};
 ghost use Rattle.hm_graph.specs.Steps.{Step as Hops};
 ghost use Rattle.hm_graph.specs.Ways.{WayOver};
@@ -13,10 +13,10 @@ ghost use Rattle.hm_graph_laws.specs.Units as units;
 ghost use Rattle.hm_graph_laws.specs.Units.{units_of};
 ghost use Rattle.hm_check.specs.Following.{GoesOverAlike, IsOver, IsWayOn, LeadsTo};
 
-use hm_base::{Format, Memory, SpellRules};
-use hm_edges::{Form, Piece};
+use hm_base::{Format, OutOfMemory, SpellRules};
+use hm_edges::{Piece, Quoting};
+use hm_event_parts::{UnitText, put_piece};
 use hm_graph::{Graph, Hop, Step, Visitor};
-use hm_parts::{Own, put_piece};
 use hm_refs::Table;
 use hm_tree::Tree;
 use std::alloc::Global;
@@ -27,14 +27,14 @@ enum Stop {
     /// It leaves the graph.
     Leaves,
     /// Memory was refused.
-    Memory,
+    OutOfMemory,
 }
 
-impl From<Memory> for Stop {
-    fn from(_error: Memory) -> Self
-        ensures { result ≡ Stop.Memory }
+impl From<OutOfMemory> for Stop {
+    fn from(_error: OutOfMemory) -> Self
+        ensures { result ≡ Stop.OutOfMemory }
     {
-        Stop::Memory
+        Stop::OutOfMemory
     }
 }
 
@@ -58,7 +58,7 @@ struct Taken<'o> {
 
 /// What follows a byte, where the text begins with it.
 #[inline(always)]
-fn behind_byte(text: &[u8], byte: u8) -> Option<&[u8]>
+fn after_byte(text: &[u8], byte: u8) -> Option<&[u8]>
     ensures { IfSome result (λ rest. text.now ≡ byte ∷ rest.now) }
 {
     match text {
@@ -69,11 +69,11 @@ fn behind_byte(text: &[u8], byte: u8) -> Option<&[u8]>
 
 /// What follows a byte, where the text begins with it, or where it isn't wanted.
 #[inline(always)]
-fn behind_where(text: &[u8], wanted: bool, byte: u8) -> Option<&[u8]>
+fn after_where(text: &[u8], wanted: bool, byte: u8) -> Option<&[u8]>
     ensures { IfSome result (λ rest. text.now ≡ (if wanted then byte ∷ [] else []) ++ rest.now) }
 {
     if wanted {
-        behind_byte(text, byte)
+        after_byte(text, byte)
     } else {
         Some(text)
     }
@@ -94,7 +94,7 @@ fn are_short_same(text: &[u8], bytes: &[u8]) -> bool
 }
 
 /// What follows these bytes, where the text begins with them.
-fn behind<'o>(text: &'o [u8], bytes: &[u8]) -> Option<&'o [u8]>
+fn after<'o>(text: &'o [u8], bytes: &[u8]) -> Option<&'o [u8]>
     ensures { IfSome result (λ rest. text.now ≡ bytes.now ++ rest.now) }
 {
     if bytes.len() > 12 {
@@ -108,151 +108,151 @@ fn behind<'o>(text: &'o [u8], bytes: &[u8]) -> Option<&'o [u8]>
 
 /// What follows a character of several bytes, where the text begins with it.
 #[inline(never)]
-fn behind_wide(text: &[u8], c: char) -> Option<&[u8]>
+fn after_wide(text: &[u8], c: char) -> Option<&[u8]>
     ensures { IfSome result (λ rest. text.now ≡ encode_utf8 c ++ rest.now) }
 {
     let mut buffer = [0; 4];
-    behind(text, c.encode_utf8(&mut buffer).as_bytes())
+    after(text, c.encode_utf8(&mut buffer).as_bytes())
 }
 
 /// What follows a character, where the text begins with it.
 #[inline(always)]
-fn behind_character(text: &[u8], c: char) -> Option<&[u8]>
+fn after_character(text: &[u8], c: char) -> Option<&[u8]>
     ensures { IfSome result (λ rest. text.now ≡ encode_utf8 c ++ rest.now) }
 {
     if c.is_ascii() {
-        behind_byte(text, c as u8)
+        after_byte(text, c as u8)
     } else {
-        behind_wide(text, c)
+        after_wide(text, c)
     }
 }
 
 /// What follows a comment, where the text begins with it.
-fn behind_comment<'o>(text: &'o [u8], comment: &str) -> Option<&'o [u8]>
+fn after_comment<'o>(text: &'o [u8], comment: &str) -> Option<&'o [u8]>
     ensures { IfSome result (λ rest. text.now ≡ comment_bytes comment.now ++ rest.now) }
 {
-    let inside = behind(text, b"<!--")?;
-    let end = behind(inside, comment.as_bytes())?;
-    behind(end, b"-->")
+    let inside = after(text, b"<!--")?;
+    let end = after(inside, comment.as_bytes())?;
+    after(end, b"-->")
 }
 
 /// What follows the bytes that a unit has of its own, where the text begins with it.
 #[inline(always)]
-fn behind_own<'o>(text: &'o [u8], own: Own) -> Option<&'o [u8]>
+fn after_own<'o>(text: &'o [u8], own: UnitText) -> Option<&'o [u8]>
     ensures { IfSome result (λ rest. text.now ≡ own_text own.entry ++ rest.now) }
 {
     match own {
-        Own::Bytes { text: own } => behind(text, own.as_bytes()),
-        Own::Comment { text: comment } => behind_comment(text, comment),
-        Own::Character { c } => behind_character(text, c),
+        UnitText::Bytes { text: own } => after(text, own.as_bytes()),
+        UnitText::Comment { text: comment } => after_comment(text, comment),
+        UnitText::Character { c } => after_character(text, c),
     }
 }
 
 /// What follows the end of a tag, where the text begins with it.
 #[inline(always)]
-fn behind_close(text: &[u8], closes: bool) -> Option<&[u8]>
+fn after_close(text: &[u8], closes: bool) -> Option<&[u8]>
     ensures { IfSome result (λ rest. text.now ≡ (if closes then codes "/>" else codes ">") ++ rest.now) }
 {
-    behind_byte(behind_where(text, closes, b'/')?, b'>')
+    after_byte(after_where(text, closes, b'/')?, b'>')
 }
 
 /// What follows a quote, where the text begins with it.
 #[inline(always)]
-fn behind_quote(text: &[u8], double: bool) -> Option<&[u8]>
+fn after_quote(text: &[u8], double: bool) -> Option<&[u8]>
     ensures { IfSome result (λ rest. text.now ≡ (if double then 34 ∷ [] else 39 ∷ []) ++ rest.now) }
 {
     if double {
-        behind_byte(text, b'"')
+        after_byte(text, b'"')
     } else {
-        behind_byte(text, b'\'')
+        after_byte(text, b'\'')
     }
 }
 
 /// What follows the end of a tag and what stands before it, where the text begins with them.
 #[inline(always)]
-fn behind_tag_close(text: &[u8], space: bool, closes: bool) -> Option<&[u8]>
+fn after_tag_close(text: &[u8], space: bool, closes: bool) -> Option<&[u8]>
     ensures { IfSome result (λ rest. text.now ≡ with_gap space (if closes then codes "/>" else codes ">") ++ rest.now) }
 {
-    behind_close(behind_where(text, space, b' ')?, closes)
+    after_close(after_where(text, space, b' ')?, closes)
 }
 
 /// What follows the name of a tag with a `<`, where the text begins with it.
 #[inline(always)]
-fn behind_tag_name<'o>(text: &'o [u8], own: Own) -> Option<&'o [u8]>
+fn after_tag_name<'o>(text: &'o [u8], own: UnitText) -> Option<&'o [u8]>
     ensures { IfSome result (λ rest. text.now ≡ (60 ∷ own_text own.entry) ++ rest.now) }
 {
-    behind_own(behind_byte(text, b'<')?, own)
+    after_own(after_byte(text, b'<')?, own)
 }
 
 /// What follows the bytes that open a value, where the text begins with it.
 #[inline(always)]
-fn behind_opening(text: &[u8], form: Form) -> Option<&[u8]>
+fn after_opening(text: &[u8], form: Quoting) -> Option<&[u8]>
     ensures { IfSome result (λ rest. text.now ≡ with_opening form [] ++ rest.now) }
 {
     match form {
-        Form::Bare => Some(text),
-        Form::Unquoted => behind_byte(text, b'='),
-        Form::Double => behind_byte(behind_byte(text, b'=')?, b'"'),
-        Form::Single => behind_byte(behind_byte(text, b'=')?, b'\''),
+        Quoting::Bare => Some(text),
+        Quoting::Unquoted => after_byte(text, b'='),
+        Quoting::Double => after_byte(after_byte(text, b'=')?, b'"'),
+        Quoting::Single => after_byte(after_byte(text, b'=')?, b'\''),
     }
 }
 
 /// What follows an attribute up to what opens its value, where the text begins with it.
 #[inline(always)]
-fn behind_attribute<'o>(text: &'o [u8], own: Own, gap: bool, form: Form) -> Option<&'o [u8]>
+fn after_attribute<'o>(text: &'o [u8], own: UnitText, gap: bool, form: Quoting) -> Option<&'o [u8]>
     ensures { IfSome result (λ rest. text.now ≡ with_gap gap (with_opening form (own_text own.entry)) ++ rest.now) }
 {
-    let name = behind_where(text, gap, b' ')?;
-    behind_opening(behind_own(name, own)?, form)
+    let name = after_where(text, gap, b' ')?;
+    after_opening(after_own(name, own)?, form)
 }
 
 /// What follows an end tag, where the text begins with it.
 #[inline(always)]
-fn behind_end_tag<'o>(text: &'o [u8], own: Own) -> Option<&'o [u8]>
+fn after_end_tag<'o>(text: &'o [u8], own: UnitText) -> Option<&'o [u8]>
     ensures { IfSome result (λ rest. text.now ≡ (codes "</" ++ (own_text own.entry ++ codes ">")) ++ rest.now) }
 {
-    let name = behind_byte(behind_byte(text, b'<')?, b'/')?;
-    behind_byte(behind_own(name, own)?, b'>')
+    let name = after_byte(after_byte(text, b'<')?, b'/')?;
+    after_byte(after_own(name, own)?, b'>')
 }
 
 /// What follows the bytes that a piece writes for a unit, where the text begins with them: those of a piece that writes
 /// a reference or a section are put into a buffer.
-fn behind_other<'o>(
+fn after_other<'o>(
     text: &'o [u8],
     spare: &mut Vec<u8>,
     table: &Table,
     piece: Piece,
-    own: Own,
-) -> Result<Option<&'o [u8]>, Memory>
+    own: UnitText,
+) -> Result<Option<&'o [u8]>, OutOfMemory>
     requires { HasName table.now.entries piece }
     ensures { IfOk result (λ found. IfSome found (λ rest. text.now ≡ piece_text table.now.entries (own_text own.entry) piece ++ rest.now)) }
 {
     spare.clear();
     put_piece(spare, table, piece, own)?;
-    Ok(behind(text, spare.as_slice()))
+    Ok(after(text, spare.as_slice()))
 }
 
 /// What follows the bytes that a piece writes for a unit, where the text begins with them.
 #[inline(always)]
-fn behind_piece<'o>(
+fn after_piece<'o>(
     text: &'o [u8],
     spare: &mut Vec<u8>,
     table: &Table,
     piece: Piece,
-    own: Own,
-) -> Result<Option<&'o [u8]>, Memory>
+    own: UnitText,
+) -> Result<Option<&'o [u8]>, OutOfMemory>
     requires { HasName table.now.entries piece }
     ensures { IfOk result (λ found. IfSome found (λ rest. text.now ≡ piece_text table.now.entries (own_text own.entry) piece ++ rest.now)) }
 {
     match piece {
         Piece::Nothing => Ok(Some(text)),
-        Piece::Itself => Ok(behind_own(text, own)),
-        Piece::TagName => Ok(behind_tag_name(text, own)),
-        Piece::Attribute { gap, form } => Ok(behind_attribute(text, own, gap, form)),
-        Piece::Quote { double } => Ok(behind_quote(text, double)),
-        Piece::TagClose { space, closes } => Ok(behind_tag_close(text, space, closes)),
-        Piece::EndTag => Ok(behind_end_tag(text, own)),
-        other => behind_other(text, spare, table, other, own),
+        Piece::Itself => Ok(after_own(text, own)),
+        Piece::TagName => Ok(after_tag_name(text, own)),
+        Piece::Attribute { gap, form } => Ok(after_attribute(text, own, gap, form)),
+        Piece::Quote { double } => Ok(after_quote(text, double)),
+        Piece::TagClose { space, closes } => Ok(after_tag_close(text, space, closes)),
+        Piece::EndTag => Ok(after_end_tag(text, own)),
+        other => after_other(text, spare, table, other, own),
     }
 }
 
@@ -263,12 +263,12 @@ fn over_hop<'o>(
     spare: &mut Vec<u8>,
     table: &Table,
     hop: Hop,
-    own: Own,
-) -> Result<Option<Taken<'o>>, Memory>
+    own: UnitText,
+) -> Result<Option<Taken<'o>>, OutOfMemory>
     requires { HasName table.now.entries hop.piece }
     ensures { IfOk result (λ found. IfSome found (LeadsTo (piece_text table.now.entries (own_text own.entry)) hop text.now)) }
 {
-    match behind_piece(text, spare, table, hop.piece, own)? {
+    match after_piece(text, spare, table, hop.piece, own)? {
         Some(rest) => Ok(Some(Taken { to: hop.to, rest })),
         None => Ok(None),
     }
@@ -276,26 +276,26 @@ fn over_hop<'o>(
 
 /// Whether what opens a value of this form may be at a place of a text.
 #[inline(always)]
-fn may_open(text: &[u8], at: usize, form: Form) -> bool {
+fn may_open(text: &[u8], at: usize, form: Quoting) -> bool {
     match text.get(at..) {
         Some([b'=', quote, ..]) => {
             match form {
-                Form::Bare => true,
-                Form::Unquoted => *quote != b'"' && *quote != b'\'',
-                Form::Double => *quote == b'"',
-                Form::Single => *quote == b'\'',
+                Quoting::Bare => true,
+                Quoting::Unquoted => *quote != b'"' && *quote != b'\'',
+                Quoting::Double => *quote == b'"',
+                Quoting::Single => *quote == b'\'',
             }
         }
-        _ => matches!(form, Form::Bare),
+        _ => matches!(form, Quoting::Bare),
     }
 }
 
 /// Whether a text may begin with the bytes of a piece. Of the forms of an attribute, those that open its value in
 /// another way than the text does are skipped before its name is compared.
 #[inline(always)]
-fn may_begin(text: &[u8], piece: Piece, own: Own) -> bool {
+fn may_begin(text: &[u8], piece: Piece, own: UnitText) -> bool {
     match (piece, own) {
-        (Piece::Attribute { gap, form }, Own::Bytes { text: name }) => {
+        (Piece::Attribute { gap, form }, UnitText::Bytes { text: name }) => {
             may_open(text, if gap { name.len() + 1 } else { name.len() }, form)
         }
         _ => true,
@@ -309,8 +309,8 @@ fn over_one<'o>(
     spare: &mut Vec<u8>,
     table: &Table,
     hop: Hop,
-    own: Own,
-) -> Result<Option<Taken<'o>>, Memory>
+    own: UnitText,
+) -> Result<Option<Taken<'o>>, OutOfMemory>
     requires { HasName table.now.entries hop.piece }
     ensures { IfOk result (λ found. IfSome found (LeadsTo (piece_text table.now.entries (own_text own.entry)) hop text.now)) }
 {
@@ -341,8 +341,8 @@ fn over_several<'o>(
     spare: &mut Vec<u8>,
     table: &Table,
     hops: &[Hop],
-    own: Own,
-) -> Result<Option<Taken<'o>>, Memory>
+    own: UnitText,
+) -> Result<Option<Taken<'o>>, OutOfMemory>
     requires { AreNamedHops table.now.entries hops.now }
     ensures { IfOk result (λ found. IfSome found (IsOver (piece_text table.now.entries (own_text own.entry)) hops.now text.now)) }
 {
@@ -362,8 +362,8 @@ fn over_hops<'o>(
     spare: &mut Vec<u8>,
     table: &Table,
     hops: &[Hop],
-    own: Own,
-) -> Result<Option<Taken<'o>>, Memory>
+    own: UnitText,
+) -> Result<Option<Taken<'o>>, OutOfMemory>
     requires { AreNamedHops table.now.entries hops.now }
     ensures { IfOk result (λ found. IfSome found (IsOver (piece_text table.now.entries (own_text own.entry)) hops.now text.now)) }
 {
@@ -381,8 +381,8 @@ fn over_step<'o>(
     table: &Table,
     step: &Step,
     place: usize,
-    own: Own,
-) -> Result<Option<Taken<'o>>, Memory>
+    own: UnitText,
+) -> Result<Option<Taken<'o>>, OutOfMemory>
     requires { IsNamedStep table.now.entries step.now }
     ensures { IfOk result (λ found. IfSome found (IsOver (piece_text table.now.entries (own_text own.entry)) (slice_index_or step.now place []) text.now)) }
 {
@@ -394,7 +394,7 @@ fn over_step<'o>(
 
 /// Goes on over the step of a unit with these bytes of its own.
 #[inline(never)]
-fn go_over(way: &mut Followed, table: &Table, step: &Step, own: Own) -> Result<(), Stop>
+fn go_over(way: &mut Followed, table: &Table, step: &Step, own: UnitText) -> Result<(), Stop>
     requires named { IsNamedStep table.now.entries step.now }
     ensures { OnOk result ((u : units.Unit) (more : List units.Unit) (steps : List Hops) → own_bytes u ≡ own_text own.entry → IsWayOn table.now.entries more steps way.new → IsWayOn table.now.entries (u ∷ more) (step.now ∷ steps) way.old) }
 {
@@ -415,7 +415,7 @@ fn go_over_character(way: &mut Followed, step: &Step, c: char) -> Result<(), Sto
     ensures { OnOk result ((t : List Entry) (u : units.Unit) (more : List units.Unit) (steps : List Hops) → own_bytes u ≡ encode_utf8 c → IsWayOn t more steps way.new → IsWayOn t (u ∷ more) (step.now ∷ steps) way.old) }
 {
     let _width = step.width();
-    match behind_character(way.rest, c) {
+    match after_character(way.rest, c) {
         Some(rest) => {
             way.rest = rest;
             Ok(())
@@ -430,7 +430,7 @@ fn go_over_each(way: &mut Followed, table: &Table, step: &Step, bytes: &[u8]) ->
     ensures { OnOk result (GoesOverAlike table.now.entries step.now bytes.now way.old way.new) }
 {
     for byte in bytes {
-        go_over(way, table, step, Own::Character { c: *byte as char })?;
+        go_over(way, table, step, UnitText::Character { c: *byte as char })?;
     }
     Ok(())
 }
@@ -443,7 +443,7 @@ fn go_over_copied(way: &mut Followed, step: &Step, bytes: &[u8]) -> Result<(), S
     ensures { OnOk result ((t : List Entry) → GoesOverAlike t step.now bytes.now way.old way.new) }
 {
     let _width = step.width();
-    match behind(way.rest, bytes) {
+    match after(way.rest, bytes) {
         Some(rest) => {
             way.rest = rest;
             Ok(())
@@ -458,9 +458,11 @@ impl<'o> Visitor for Followed<'o> {
     ghost goes_on = { λ _ t more steps way. IsWayOn t more steps way };
 
     #[inline(always)]
-    fn take(&mut self, table: &Table, step: &Step, own: Own) -> Result<(), Stop> {
+    fn take(&mut self, table: &Table, step: &Step, own: UnitText) -> Result<(), Stop> {
         match own {
-            Own::Character { c } if step.copies(self.place) => go_over_character(self, step, c),
+            UnitText::Character { c } if step.copies(self.place) => go_over_character(
+                self, step, c,
+            ),
             own => go_over(self, table, step, own),
         }
     }
@@ -483,7 +485,7 @@ pub(crate) fn graph_followed<'t>(
     rules: SpellRules,
     format: Format,
     out: &[u8],
-) -> Result<Option<Graph<'t>>, Memory>
+) -> Result<Option<Graph<'t>>, OutOfMemory>
     ensures source { IfOk result (λ found. IfSome found (λ graph. graph.source ≡ record { tree = tree.now; table = table.now; rules = rules; format = format })) }
     ensures way { IfOk result (λ found. IfSome found (λ graph. WayOver (piece_bytes table.now.entries) (units_of rules tree.now) graph.steps 0 out.now)) }
 {
@@ -501,6 +503,6 @@ pub(crate) fn graph_followed<'t>(
             }
         }
         Err(Stop::Leaves) => Ok(None),
-        Err(Stop::Memory) => Err(Memory),
+        Err(Stop::OutOfMemory) => Err(OutOfMemory),
     }
 }

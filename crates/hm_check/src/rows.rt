@@ -10,21 +10,25 @@ ghost use Rattle.hm_check.specs.Verdicts as verdicts;
 use crate::layers::count_layers;
 use crate::sweep::Sweep;
 use crate::{Verdict, Why};
-use hm_base::Memory;
+use hm_base::OutOfMemory;
 use hm_cert::{WrittenRows, price_of};
 use hm_graph::Graph;
 use std::alloc::Global;
 
 /// What is known at the first layer.
-fn sweep<'a>(alloc: Global, graph: &Graph, prices: &WrittenRows<'a>) -> Result<Sweep<'a>, Memory>
+fn sweep<'a>(
+    alloc: Global,
+    graph: &Graph,
+    prices: &WrittenRows<'a>,
+) -> Result<Sweep<'a>, OutOfMemory>
     requires { AreInPlace graph.now prices.now }
     ensures { IfOk result (IsSwept graph.now prices.now 0) }
 {
     let mut sweep = Sweep::at_end(alloc, graph, prices)?;
     let mut layer = graph.last_layer();
     while layer.layer > 0 {
-        let behind = sweep.pass_still(graph, prices, layer);
-        let front = graph.back(behind);
+        let after = sweep.pass_still(graph, prices, layer);
+        let front = graph.back(after);
         sweep.take_layer(graph, prices, front.layer, graph.step(front))?;
         layer = sweep.go_on(graph, prices, front)?;
     }
@@ -67,14 +71,14 @@ fn by_prices(
     graph: &Graph,
     prices: &WrittenRows<'_>,
     length: u64,
-) -> Result<Verdict, Memory>
+) -> Result<Verdict, OutOfMemory>
     requires { AreInPlace graph.now prices.now }
     ensures { IfOk result (λ found. found ≡ by_width_over graph.now.source.format graph.now.last graph.now.steps length prices.now (other_width_over graph.now.source.format 0 graph.now.last graph.now.steps prices.now)) }
 {
     let swept = sweep(alloc, graph, prices)?;
     match swept.found.why {
         Some(why) => Ok(Verdict::No { why }),
-        None => Ok(by_first(length, first_of(swept.behind.as_slice()))),
+        None => Ok(by_first(length, first_of(swept.next_row.as_slice()))),
     }
 }
 
@@ -84,7 +88,7 @@ pub(crate) fn by_rows(
     graph: &Graph,
     prices: &WrittenRows<'_>,
     length: u64,
-) -> Result<Verdict, Memory>
+) -> Result<Verdict, OutOfMemory>
     requires { AreRows prices.now }
     ensures { IfOk result (λ found. found ≡ by_rows_over graph.now.source.format graph.now.last graph.now.steps length prices.now) }
 {

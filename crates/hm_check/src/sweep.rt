@@ -12,7 +12,7 @@ ghost use Rattle.hm_check.specs.Sweeps.{AreInPlace, IsStillOver, IsSwept, judged
 use crate::Why;
 use crate::bounds::{are_within, best_price, find_high, find_high_at_end};
 use crate::layers::is_left_out;
-use hm_base::Memory;
+use hm_base::OutOfMemory;
 use hm_cert::{RowPlace, WrittenRows, add_each};
 use hm_graph::laws::every_graph;
 use hm_graph::{Cursor, Graph, Step};
@@ -34,16 +34,16 @@ pub(crate) struct Sweep<'a> {
     /// After this place are the rows of these layers.
     pub(crate) at: RowPlace<'a>,
     /// The prices of the layer, where all rows have the right widths.
-    pub(crate) behind: Vec<u64>,
+    pub(crate) next_row: Vec<u64>,
     pub(crate) found: SweepFound,
     spare: Vec<u64>,
 }
 
 /// Adds to `found` what is found of the row of layer `k`, by the next layer's prices.
-fn judge(found: &mut SweepFound, k: u64, row: &[u64], behind: &[u64], step: &Step)
-    requires below { found.old.right ≡ true → AreBelow (2 ^ 63 + 2 ^ 62) (map told behind.now) }
+fn judge(found: &mut SweepFound, k: u64, row: &[u64], next_row: &[u64], step: &Step)
+    requires below { found.old.right ≡ true → AreBelow (2 ^ 63 + 2 ^ 62) (map told next_row.now) }
     requires low { IsLowStep step.now }
-    ensures { found.new ≡ judged found.old k (map told row.now) (map told behind.now) step.now }
+    ensures { found.new ≡ judged found.old k (map told row.now) (map told next_row.now) step.now }
 {
     if row.len() != step.width() {
         *found = SweepFound {
@@ -59,7 +59,7 @@ fn judge(found: &mut SweepFound, k: u64, row: &[u64], behind: &[u64], step: &Ste
     if !found.right {
         return;
     }
-    if let Some(why) = find_high(k, row, behind, step) {
+    if let Some(why) = find_high(k, row, next_row, step) {
         found.why = Some(why);
     }
 }
@@ -69,25 +69,25 @@ fn judge_over(
     found: &mut SweepFound,
     k: u64,
     row: &[u64],
-    behind: &[u64],
+    next_row: &[u64],
     step: &Step,
     still: Option<u64>,
 )
-    requires below { found.old.right ≡ true → AreBelow (2 ^ 63 + 2 ^ 62) (map told behind.now) }
+    requires below { found.old.right ≡ true → AreBelow (2 ^ 63 + 2 ^ 62) (map told next_row.now) }
     requires low { IsLowStep step.now }
     requires still { IfSome still (IsStillOver step.now) }
-    ensures { found.new ≡ judged found.old k (map told row.now) (map told behind.now) step.now }
+    ensures { found.new ≡ judged found.old k (map told row.now) (map told next_row.now) step.now }
 {
     if let Some(len) = still {
         if found.right
             && row.len() == step.width()
-            && behind.len() == row.len()
-            && are_within(row, behind, len)
+            && next_row.len() == row.len()
+            && are_within(row, next_row, len)
         {
             return;
         }
     }
-    judge(found, k, row, behind, step)
+    judge(found, k, row, next_row, step)
 }
 
 /// What is found of the row of the last layer, layer `k`, which has `last` states.
@@ -111,41 +111,41 @@ fn judge_at_end(k: u64, row: &[u64], last: usize) -> SweepFound
 }
 
 /// Finds the prices of a layer that is left out by those after it, in place of what the row held.
-fn find_followed(behind: &[u64], row: &mut Vec<u64>, step: &Step) -> Result<(), Memory>
-    requires below { AreBelow (2 ^ 63 + 2 ^ 62) (map told behind.now) }
+fn find_followed(next_row: &[u64], row: &mut Vec<u64>, step: &Step) -> Result<(), OutOfMemory>
+    requires below { AreBelow (2 ^ 63 + 2 ^ 62) (map told next_row.now) }
     requires low { IsLowStep step.now }
-    ensures { OnOk result (map told row.new.items ≡ row_over (map told behind.now) step.now) }
+    ensures { OnOk result (map told row.new.items ≡ row_over (map told next_row.now) step.now) }
 {
     row.clear();
     for place in 0..step.width() {
-        row.push(best_price(behind, step.hops(place)))?;
+        row.push(best_price(next_row, step.hops(place)))?;
     }
     Ok(())
 }
 
 /// Adds `len` to each price.
-fn add_to(behind: &mut Vec<u64>, len: u64)
-    requires below { AreBelow (2 ^ 63 + 2 ^ 62) (map told behind.old.items) }
+fn add_to(next_row: &mut Vec<u64>, len: u64)
+    requires below { AreBelow (2 ^ 63 + 2 ^ 62) (map told next_row.old.items) }
     requires low { len < 2 ^ 62 }
-    ensures { map told behind.new.items ≡ map (over len) (map told behind.old.items) }
+    ensures { map told next_row.new.items ≡ map (over len) (map told next_row.old.items) }
 {
-    add_each(behind, len);
+    add_each(next_row, len);
 }
 
 /// Puts the prices of a layer that is left out in place of those after it. Over most steps no state changes its place.
-fn follow(behind: &mut Vec<u64>, spare: &mut Vec<u64>, step: &Step) -> Result<(), Memory>
-    requires below { AreBelow (2 ^ 63 + 2 ^ 62) (map told behind.old.items) }
+fn follow(next_row: &mut Vec<u64>, spare: &mut Vec<u64>, step: &Step) -> Result<(), OutOfMemory>
+    requires below { AreBelow (2 ^ 63 + 2 ^ 62) (map told next_row.old.items) }
     requires low { IsLowStep step.now }
-    ensures { OnOk result (map told behind.new.items ≡ row_over (map told behind.old.items) step.now) }
+    ensures { OnOk result (map told next_row.new.items ≡ row_over (map told next_row.old.items) step.now) }
 {
     if let Some(len) = step.still() {
-        if behind.len() == step.width() {
-            add_to(behind, len);
+        if next_row.len() == step.width() {
+            add_to(next_row, len);
             return Ok(());
         }
     }
-    find_followed(behind, spare, step)?;
-    mem::swap(behind, spare);
+    find_followed(next_row, spare, step)?;
+    mem::swap(next_row, spare);
     Ok(())
 }
 
@@ -155,17 +155,17 @@ impl<'a> Sweep<'a> {
         alloc: Global,
         graph: &Graph,
         prices: &WrittenRows<'a>,
-    ) -> Result<Sweep<'a>, Memory>
+    ) -> Result<Sweep<'a>, OutOfMemory>
         requires { AreInPlace graph.now prices.now }
         ensures { IfOk result (IsSwept graph.now prices.now (length graph.now.steps)) }
     {
-        let mut behind = Vec::new(alloc);
+        let mut next_row = Vec::new(alloc);
         let mut at = prices.end();
-        prices.row_before(&mut at, &mut behind)?;
-        let found = judge_at_end(graph.len() as u64, behind.as_slice(), graph.last());
+        prices.row_before(&mut at, &mut next_row)?;
+        let found = judge_at_end(graph.len() as u64, next_row.as_slice(), graph.last());
         Ok(Sweep {
             at,
-            behind,
+            next_row,
             found,
             spare: Vec::new(alloc),
         })
@@ -178,7 +178,7 @@ impl<'a> Sweep<'a> {
         prices: &WrittenRows<'a>,
         k: usize,
         step: &Step,
-    ) -> Result<(), Memory>
+    ) -> Result<(), OutOfMemory>
         requires layer { k < length graph.now.steps }
         requires step { step.now ≡ slice_index_or graph.now.steps k [] }
         requires out { steps.is_left_out graph.now.source.format k step.now ≡ true }
@@ -189,7 +189,7 @@ impl<'a> Sweep<'a> {
         if !self.found.right {
             return Ok(());
         }
-        follow(&mut self.behind, &mut self.spare, step)
+        follow(&mut self.next_row, &mut self.spare, step)
     }
 
     /// Goes on to layer `k`, which is written. Where a length is given, no state changes its place over the step, and each hop
@@ -201,7 +201,7 @@ impl<'a> Sweep<'a> {
         k: usize,
         step: &Step,
         still: Option<u64>,
-    ) -> Result<(), Memory>
+    ) -> Result<(), OutOfMemory>
         requires place { AreInPlace graph.now prices.now }
         requires layer { k < length graph.now.steps }
         requires step { step.now ≡ slice_index_or graph.now.steps k [] }
@@ -216,11 +216,11 @@ impl<'a> Sweep<'a> {
             &mut self.found,
             k as u64,
             self.spare.as_slice(),
-            self.behind.as_slice(),
+            self.next_row.as_slice(),
             step,
             still,
         );
-        mem::swap(&mut self.behind, &mut self.spare);
+        mem::swap(&mut self.next_row, &mut self.spare);
         Ok(())
     }
 
@@ -231,7 +231,7 @@ impl<'a> Sweep<'a> {
         prices: &WrittenRows<'a>,
         k: usize,
         step: &Step,
-    ) -> Result<(), Memory>
+    ) -> Result<(), OutOfMemory>
         requires place { AreInPlace graph.now prices.now }
         requires layer { k < length graph.now.steps }
         requires step { step.now ≡ slice_index_or graph.now.steps k [] }
@@ -247,13 +247,13 @@ impl<'a> Sweep<'a> {
 
     /// As `add_to`, to each price of the layer.
     fn add(&mut self, len: u64)
-        requires below { AreBelow (2 ^ 63 + 2 ^ 62) (map told self.old.behind.items) }
+        requires below { AreBelow (2 ^ 63 + 2 ^ 62) (map told self.old.next_row.items) }
         requires low { len < 2 ^ 62 }
         ensures at { self.new.at ≡ self.old.at }
         ensures found { self.new.found ≡ self.old.found }
-        ensures behind { map told self.new.behind.items ≡ map (over len) (map told self.old.behind.items) }
+        ensures next_row { map told self.new.next_row.items ≡ map (over len) (map told self.old.next_row.items) }
     {
-        add_to(&mut self.behind, len);
+        add_to(&mut self.next_row, len);
     }
 
     /// Goes on over layers that are written, from the one before a layer down to another, which isn't the first. They
@@ -266,7 +266,7 @@ impl<'a> Sweep<'a> {
         front: usize,
         step: &Step,
         len: u64,
-    ) -> Result<(), Memory>
+    ) -> Result<(), OutOfMemory>
         requires place { AreInPlace graph.now prices.now }
         requires inside { from < length graph.now.steps }
         requires order { front ≤ from }
@@ -306,7 +306,7 @@ impl<'a> Sweep<'a> {
         if at.layer == 0 || !self.found.right {
             return at;
         }
-        let passed = graph.back_still(at, self.behind.len());
+        let passed = graph.back_still(at, self.next_row.len());
         if passed.front.layer < at.layer {
             self.add(passed.len);
         }
@@ -320,7 +320,7 @@ impl<'a> Sweep<'a> {
         graph: &Graph,
         prices: &WrittenRows<'a>,
         at: Cursor,
-    ) -> Result<Cursor, Memory>
+    ) -> Result<Cursor, OutOfMemory>
         requires rows { AreInPlace graph.now prices.now }
         requires place { IsPlace graph.now at }
         requires inside { at.layer < length graph.now.steps }
@@ -338,7 +338,7 @@ impl<'a> Sweep<'a> {
         }
         every_graph(graph);
         let step = graph.step(at);
-        if self.behind.len() != step.width() || step.is_left_out(graph.format()) {
+        if self.next_row.len() != step.width() || step.is_left_out(graph.format()) {
             return Ok(at);
         }
         let len = match step.still() {

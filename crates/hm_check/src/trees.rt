@@ -7,7 +7,7 @@ ghost use Rattle.hm_check.specs.Trees.{tree_why};
 ghost use Rattle.hm_check.specs.Verdicts.{out_outcome};
 
 use crate::Why;
-use hm_base::{Memory, OUTPUT_LIMIT, Refused, SourceText};
+use hm_base::{OUTPUT_LIMIT, OutOfMemory, Refused, SourceText};
 use hm_build::parse;
 use hm_refs::Table;
 use hm_tree::Tree;
@@ -37,7 +37,7 @@ pub(crate) fn find_difference(
     table: &Table,
     wanted: &Tree,
     out: &[u8],
-) -> Result<Option<Why>, Memory>
+) -> Result<Option<Why>, OutOfMemory>
     ensures { IfOk result (λ found. found ≡ tree_why wanted.now (out_outcome table.now.entries out.now)) }
 {
     match read_out(alloc, table, out) {
@@ -46,6 +46,6 @@ pub(crate) fn find_difference(
             None => Ok(None),
         },
         Err(Refused::Page { rule, at }) => Ok(Some(Why::OutRefused { rule, at })),
-        Err(Refused::Memory) => Err(Memory),
+        Err(Refused::OutOfMemory) => Err(OutOfMemory),
     }
 }

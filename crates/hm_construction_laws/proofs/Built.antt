@@ -11,9 +11,9 @@ use Rattle.hm_tree.specs.Tokens as tokens
 use Rattle.hm_elements.specs.Names.{head, body}
 use Rattle.hm_elements.specs.Paths.{is_in_raw, is_in_text, current, is_open}
 use Rattle.hm_elements.specs.Settled.{Settled}
-use Rattle.hm_elements.specs.Places.{CommentAllowed, SettledBehindBody, SettledBeforeBody}
+use Rattle.hm_elements.specs.Places.{CommentAllowed, SettledAfterBody, SettledBeforeBody}
 use Rattle.hm_elements.proofs.Gathered.{page_settles}
-use Rattle.hm_token_laws.specs.First.{Mode, Next, at_end, behind_bytes, first}
+use Rattle.hm_token_laws.specs.First.{Mode, Next, at_end, after_bytes, first}
 use Rattle.hm_token_laws.specs.Laws.{IsPlain, SoundNames, IsText, SoundToken}
 use Rattle.hm_token_laws.proofs.Firsts.{tokens_are_sound}
 use Rattle.hm_scan.specs.Reading.{read_tag}
@@ -27,27 +27,27 @@ use Rattle.hm_construction_laws.proofs.Tags.{starts_lead, ends_lead, comments_le
 use Rattle.hm_construction_laws.proofs.Overs.{SettlesAll, over_settles}
 use Rattle.hm_construction_laws.proofs.Modes.{is_mode, markup_no_text, references_no_raw, raw_mode, in_text, raw_piece}
 use Rattle.hm_construction_laws.proofs.Rests.{rest_is}
-use Rattle.hm_construction_laws.proofs.RawTexts.{IsTag, tag_is_read, TagHere, tag_behind}
+use Rattle.hm_construction_laws.proofs.RawTexts.{IsTag, tag_is_read, TagHere, tag_after}
 
 -- ---- Outcomes
 
 -- what was built after events
-record Behind (es : List Event) (o : Outcome) (w : List Event) : Type 0 where
+record BuiltRest (es : List Event) (o : Outcome) (w : List Event) : Type 0 where
   rest : List Event
   built_is : o ≡ built rest
   whole : pushes es rest ≡ w
 
-after_built : (es : List Event) (o : Outcome) (w : List Event) → after_events es o ≡ built w → Behind es o w
+after_built : (es : List Event) (o : Outcome) (w : List Event) → after_events es o ≡ built w → BuiltRest es o w
 after_built es (built v) w h = record { rest = v; built_is = refl; whole = cc }
 after_built es (refused_by rule at) w h = cc
 
 -- a step, and what is built after it
 step_settles : (place : ℕ → ℕ) (at : ℕ) (insertion_mode : InsertionMode) (path : List Element) (s : Stepped) (more : Construction → Outcome) (w : List Event) → Leads insertion_mode path s
     → ((next : Construction) (v : List Event) → Good next → more next ≡ built v → SettledAt next.insertion_mode next.path v) → stepped place at s more ≡ built w → SettledAt insertion_mode path w
-step_settles place at insertion_mode path (went es next) more w l behind h =
+step_settles place at insertion_mode path (went es next) more w l after h =
     let b = after_built es (more next) w h in
-    subst (SettledAt insertion_mode path) b.whole (l.1 b.rest (behind next b.rest l.0 b.built_is))
-step_settles place at insertion_mode path (stops rule n) more w l behind h = cc
+    subst (SettledAt insertion_mode path) b.whole (l.1 b.rest (after next b.rest l.0 b.built_is))
+step_settles place at insertion_mode path (stops rule n) more w l after h = cc
 
 over_built : (place : ℕ → ℕ) (at : ℕ) (insertion_mode : InsertionMode) (path : List Element) (s : Stepped) (w : List Event) → SettlesAll insertion_mode path s → stepped place at s (λ next. built []) ≡ built w → SettledAt insertion_mode path w
 over_built place at insertion_mode path (went es next) w a h = subst (SettledAt insertion_mode path) (let is : built (pushes es []) ≡ built w = h in cc) a
@@ -86,9 +86,9 @@ raw_puts insertion_mode path (c ∷ s) w p r alone h = rw (texts_join (is_in_raw
     by before_head k x = cc
     by in_head k x = raw_inside head SettledBeforeBody path (c ∷ s) w r alone x
     by after_head k x = cc
-    by in_body k x = raw_inside body SettledBehindBody path (c ∷ s) w r alone x
-    by after_body k x = raw_inside body SettledBehindBody path (c ∷ s) w r alone x
-    by after_html k x = raw_inside body SettledBehindBody path (c ∷ s) w r alone x
+    by in_body k x = raw_inside body SettledAfterBody path (c ∷ s) w r alone x
+    by after_body k x = raw_inside body SettledAfterBody path (c ∷ s) w r alone x
+    by after_html k x = raw_inside body SettledAfterBody path (c ∷ s) w r alone x
 
 -- where no line feed is dropped, a state is as it is
 still_is : (st : Construction) → st.drops_line_feed ≡ false → no_drop st ≡ st
@@ -96,13 +96,13 @@ still_is st h = let P : Bool → Construction = λ b. record st { drops_line_fee
 
 raw_settles : (place : ℕ → ℕ) (at : ℕ) (st : Construction) (s : List ℕ) (more : Construction → Outcome) (w : List Event) → Good st → RawPiece st.path s
     → ((v : List Event) → more (no_drop st) ≡ built v → SettledAt st.insertion_mode st.path v × (begins_text v ≡ false)) → stepped place at (step_bytes s (no_drop st)) more ≡ built w → SettledAt st.insertion_mode st.path w
-raw_settles place at st s more w g r behind h = by (step_bytes s (no_drop st)) (all_ran s st (keeps_in_text (no_drop st) (in_text st.path r.raw))) h
+raw_settles place at st s more w g r after h = by (step_bytes s (no_drop st)) (all_ran s st (keeps_in_text (no_drop st) (in_text st.path r.raw))) h
   where
     by : (x : Stepped) → Ran (no_drop st) s x → stepped place at x more ≡ built w → SettledAt st.insertion_mode st.path w
     by x (halted rule n) k = cc
     by x (ran blank) k =
         let b = after_built (texts (is_in_raw st.path) s) (more (no_drop st)) w k in
-        let d = behind b.rest b.built_is in
+        let d = after b.rest b.built_is in
         subst (SettledAt st.insertion_mode st.path) b.whole (raw_puts st.insertion_mode st.path s b.rest (text_mode st.insertion_mode st.path g.shape (in_text st.path r.raw)) r d.1 d.0)
 
 -- ---- The end tag after a raw text
@@ -136,11 +136,11 @@ other_begins place at (stops rule n) more w b h = cc
 abbrev reads_on : List Entry → (ℕ → ℕ) → ℕ → List ℕ → ℕ → Construction → Outcome
 reads_on t place at s skip next = tree_from t place skip (at + 1) next s
 
-tag_begins : (t : List Entry) (place : ℕ → ℕ) (at : ℕ) (st : Construction) (c : ℕ) (s : List ℕ) (w : List Event) → SoundNames t → is_in_raw st.path ≡ true → IsPlain (c ∷ s) → first t (mode_of st.path) (c ∷ s) ≡ behind_bytes 0 (read_tag t (c ∷ s))
+tag_begins : (t : List Entry) (place : ℕ → ℕ) (at : ℕ) (st : Construction) (c : ℕ) (s : List ℕ) (w : List Event) → SoundNames t → is_in_raw st.path ≡ true → IsPlain (c ∷ s) → first t (mode_of st.path) (c ∷ s) ≡ after_bytes 0 (read_tag t (c ∷ s))
     → next_step place at st (c ∷ s) (first t (mode_of st.path) (c ∷ s)) (reads_on t place at s) ≡ built w → begins_text w ≡ false
 tag_begins t place at st c s w names r plain is h = by (read_tag t (c ∷ s)) (tag_is_read t (c ∷ s)) is (rw is at h)
   where
-    by : (y : Scanned) → IsTag y → first t (mode_of st.path) (c ∷ s) ≡ behind_bytes 0 y → next_step place at st (c ∷ s) (behind_bytes 0 y) (reads_on t place at s) ≡ built w → begins_text w ≡ false
+    by : (y : Scanned) → IsTag y → first t (mode_of st.path) (c ∷ s) ≡ after_bytes 0 y → next_step place at st (c ∷ s) (after_bytes 0 y) (reads_on t place at s) ≡ built w → begins_text w ≡ false
     by (taken (tokens.start_tag name attributes slash) rest) i e k =
         let a = (tokens_are_sound t (mode_of st.path) (c ∷ s) 0 (tokens.start_tag name attributes slash) rest names (is_mode st.path) plain e).0 in
         absurd (both_ways (is_in_text st.path) (markup_no_text st.path a.mode_reads) (in_text st.path r))
@@ -163,25 +163,25 @@ abbrev pub Settles : List Entry → (ℕ → ℕ) → List ℕ → Type 0
 Settles t place s = (skip at : ℕ) (st : Construction) (w : List Event) → Good st → IsPlain (drop skip s) → tree_from t place skip at st s ≡ built w → SettledAt st.insertion_mode st.path w
 
 raw_token : (t : List Entry) (place : ℕ → ℕ) (at : ℕ) (st : Construction) (c : ℕ) (s : List ℕ) (n : ℕ) (x rest : List ℕ) (w : List Event) → SoundNames t → Settles t place s → Good st → is_in_raw st.path ≡ true → IsText (mode_of st.path) x → IsPlain rest
-    → first t (mode_of st.path) (c ∷ s) ≡ behind_bytes n (taken (tokens.slice x) rest) → stepped place (at + n) (step_bytes x st) (reads_on t place at s (pred (length (c ∷ s) - length rest))) ≡ built w → SettledAt st.insertion_mode st.path w
+    → first t (mode_of st.path) (c ∷ s) ≡ after_bytes n (taken (tokens.slice x) rest) → stepped place (at + n) (step_bytes x st) (reads_on t place at s (pred (length (c ∷ s) - length rest))) ≡ built w → SettledAt st.insertion_mode st.path w
 raw_token t place at st c s n x rest w names more g r a plain e h =
     let skip : ℕ = pred (length (c ∷ s) - length rest) in
     let reached : rest ≡ drop skip s = sym (rest_is t (mode_of st.path) c s n (tokens.slice x) rest names (is_mode st.path) e) in
     let plain' : IsPlain (drop skip s) = subst IsPlain reached plain in
-    let here : TagHere t (mode_of st.path) (drop skip s) = subst (TagHere t (mode_of st.path)) reached (tag_behind t (current st.path) (mode_of st.path) (c ∷ s) n x rest (raw_mode st.path r) e) in
+    let here : TagHere t (mode_of st.path) (drop skip s) = subst (TagHere t (mode_of st.path)) reached (tag_after t (current st.path) (mode_of st.path) (c ∷ s) n x rest (raw_mode st.path r) e) in
     raw_settles place (at + n) st x (reads_on t place at s skip) w g (raw_piece st.path x r a)
     (λ v k. (more skip (at + 1) (no_drop st) v (good_still st g) plain' k, raw_begins t place names s skip (at + 1) (no_drop st) v r plain' here k))
     (subst (λ (q : Construction). stepped place (at + n) (step_bytes x q) (reads_on t place at s skip) ≡ built w) (sym (still_is st (g.keeps r))) h)
 
 other_token : (t : List Entry) (place : ℕ → ℕ) (at : ℕ) (st : Construction) (c : ℕ) (s : List ℕ) (n : ℕ) (token : Seen) (rest : List ℕ) (w : List Event) → SoundNames t → Settles t place s → Good st → SoundToken (mode_of st.path) token → ((x : List ℕ) → token ≡ tokens.slice x → is_in_raw st.path ≡ false) → IsPlain rest
-    → first t (mode_of st.path) (c ∷ s) ≡ behind_bytes n (taken token rest) → stepped place (at + n) (step st token) (reads_on t place at s (pred (length (c ∷ s) - length rest))) ≡ built w → SettledAt st.insertion_mode st.path w
+    → first t (mode_of st.path) (c ∷ s) ≡ after_bytes n (taken token rest) → stepped place (at + n) (step st token) (reads_on t place at s (pred (length (c ∷ s) - length rest))) ≡ built w → SettledAt st.insertion_mode st.path w
 other_token t place at st c s n token rest w names more g a no_raw plain e h =
     let skip : ℕ = pred (length (c ∷ s) - length rest) in
     let plain' : IsPlain (drop skip s) = subst IsPlain (sym (rest_is t (mode_of st.path) c s n token rest names (is_mode st.path) e)) plain in
     step_settles place (at + n) st.insertion_mode st.path (step st token) (reads_on t place at s skip) w (token_leads st token g a no_raw) (λ next v g' k. more skip (at + 1) next v g' plain' k) h
 
 one_token : (t : List Entry) (place : ℕ → ℕ) (at : ℕ) (st : Construction) (c : ℕ) (s : List ℕ) (n : ℕ) (token : Seen) (rest : List ℕ) (w : List Event) → SoundNames t → Settles t place s → Good st → SoundToken (mode_of st.path) token → IsPlain rest
-    → first t (mode_of st.path) (c ∷ s) ≡ behind_bytes n (taken token rest) → stepped place (at + n) (step st token) (reads_on t place at s (pred (length (c ∷ s) - length rest))) ≡ built w → SettledAt st.insertion_mode st.path w
+    → first t (mode_of st.path) (c ∷ s) ≡ after_bytes n (taken token rest) → stepped place (at + n) (step st token) (reads_on t place at s (pred (length (c ∷ s) - length rest))) ≡ built w → SettledAt st.insertion_mode st.path w
 unfolding step
 one_token t place at st c s n (tokens.slice x) rest w names more g a plain e h = by (is_in_raw st.path) refl
   where
@@ -197,8 +197,8 @@ one_token t place at st c s n (tokens.comment x) rest w names more g a plain e h
 next_settles : (t : List Entry) (place : ℕ → ℕ) (at : ℕ) (st : Construction) (c : ℕ) (s : List ℕ) (x : Next) (w : List Event) → SoundNames t → Settles t place s → Good st → IsPlain (c ∷ s) → first t (mode_of st.path) (c ∷ s) ≡ x
     → next_step place at st (c ∷ s) x (reads_on t place at s) ≡ built w → SettledAt st.insertion_mode st.path w
 next_settles t place at st c s at_end w names more g plain e h = over_built place (at + length (c ∷ s)) st.insertion_mode st.path (step_over st) w (over_settles st g) h
-next_settles t place at st c s (behind_bytes n (refused fault)) w names more g plain e h = cc
-next_settles t place at st c s (behind_bytes n (taken token rest)) w names more g plain e h =
+next_settles t place at st c s (after_bytes n (refused fault)) w names more g plain e h = cc
+next_settles t place at st c s (after_bytes n (taken token rest)) w names more g plain e h =
     let a = tokens_are_sound t (mode_of st.path) (c ∷ s) n token rest names (is_mode st.path) plain e in
     one_token t place at st c s n token rest w names more g a.0 a.1 e h
 

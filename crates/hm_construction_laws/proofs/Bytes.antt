@@ -13,9 +13,9 @@ use Rattle.hm_elements.specs.Names.{is_among, head, body, noscript}
 use Rattle.hm_elements.specs.Tables.{is_raw, raw_names, is_rcdata, rcdata_names, holds_text}
 use Rattle.hm_elements.specs.Nesting.{is_name}
 use Rattle.hm_elements.specs.Paths.{current_name, is_in_raw, is_in_text, is_in_blank, blank_parents}
-use Rattle.hm_elements.specs.Places.{SettledBehindBody, SettledBeforeBody}
+use Rattle.hm_elements.specs.Places.{SettledAfterBody, SettledBeforeBody}
 use Rattle.hm_elements.proofs.TableTools.{entry_passes}
-use Rattle.hm_construction_laws.specs.Steps.{InsertionMode, initial, before_html, before_head, in_head, after_head, in_body, after_body, after_html, Construction, Stepped, went, stops, behind_events, behind_bytes, then_step, reach_body, is_in_noscript, keep_byte, space_byte, body_byte, kept_byte, no_drop, step_byte, step_bytes}
+use Rattle.hm_construction_laws.specs.Steps.{InsertionMode, initial, before_html, before_head, in_head, after_head, in_body, after_body, after_html, Construction, Stepped, went, stops, stepped_after_events, after_bytes, then_step, reach_body, is_in_noscript, keep_byte, space_byte, body_byte, kept_byte, no_drop, step_byte, step_bytes}
 use Rattle.hm_construction_laws.proofs.Standing.{SettledAt, Good, Leads}
 use Rattle.hm_construction_laws.proofs.Texts.{Piece, text_inside, texts, texts_join}
 
@@ -66,8 +66,8 @@ pub space_low : (c : ℕ) → is_space c ≡ true → c < 128
 unfolding is_space
 space_low c h = grind arith
 
-pub low_behind : (c : ℕ) (s : List ℕ) → c < 128 → is_utf8 (c ∷ s) ≡ true → is_utf8 s ≡ true
-low_behind c s low u =
+pub low_after : (c : ℕ) (s : List ℕ) → c < 128 → is_utf8 (c ∷ s) ≡ true → is_utf8 s ≡ true
+low_after c s low u =
     let v = IsUtf8-from_is_utf8 (c ∷ s) u in
     is_utf8-from_IsUtf8 s (IsUtf8-drop (c ∷ s) 1 v (IsCharBoundary-after_ascii (c ∷ s) 0 v (omega arith) low))
 
@@ -76,8 +76,8 @@ low_alone c s low u =
     let v = IsUtf8-from_is_utf8 (c ∷ s) u in
     is_utf8-from_IsUtf8 (c ∷ []) (IsUtf8-take (c ∷ s) 1 v (IsCharBoundary-after_ascii (c ∷ s) 0 v (omega arith) low))
 
-pub no_byte_behind : (d c : ℕ) (s : List ℕ) → has_byte d (c ∷ s) ≡ false → has_byte d s ≡ false
-no_byte_behind d c s h = by (is_byte d c) h
+pub no_byte_after : (d c : ℕ) (s : List ℕ) → has_byte d (c ∷ s) ≡ false → has_byte d s ≡ false
+no_byte_after d c s h = by (is_byte d c) h
   where
     by : (k : Bool) → k || has_byte d s ≡ false → has_byte d s ≡ false
     by true e = cc
@@ -100,11 +100,11 @@ pub data Ran (st : Construction) (s : List ℕ) : Stepped → Type 0 where
 abbrev pub Keeps : Construction → Type 0
 Keeps st = (c : ℕ) → Ran st (c ∷ []) (kept_byte c st)
 
-ran_more : (st : Construction) (c : ℕ) (s : List ℕ) (blank : is_in_blank st.path ≡ true → is_blank (c ∷ []) ≡ true) (y : Stepped) → Ran st s y → Ran st (c ∷ s) (behind_events (texts (is_in_raw st.path) (c ∷ [])) (behind_bytes 1 y))
+ran_more : (st : Construction) (c : ℕ) (s : List ℕ) (blank : is_in_blank st.path ≡ true → is_blank (c ∷ []) ≡ true) (y : Stepped) → Ran st s y → Ran st (c ∷ s) (stepped_after_events (texts (is_in_raw st.path) (c ∷ [])) (after_bytes 1 y))
 ran_more st c s blank y (ran b) = ran (λ h. and_from (is_space c) (is_blank s) (and_parts (is_space c) true (blank h)).0 (b h))
 ran_more st c s blank y (halted rule n) = halted rule (1 + n)
 
-then_ran : (st : Construction) (c : ℕ) (s : List ℕ) (x : Stepped) → Ran st (c ∷ []) x → Ran st s (step_bytes s st) → Ran st (c ∷ s) (then_step x (λ next. behind_bytes 1 (step_bytes s next)))
+then_ran : (st : Construction) (c : ℕ) (s : List ℕ) (x : Stepped) → Ran st (c ∷ []) x → Ran st s (step_bytes s st) → Ran st (c ∷ s) (then_step x (λ next. after_bytes 1 (step_bytes s next)))
 then_ran st c s x (ran blank) more = ran_more st c s blank (step_bytes s st) more
 then_ran st c s x (halted rule n) more = halted rule n
 
@@ -200,9 +200,9 @@ put_text before_html path s w p no_raw piece h = cc
 put_text before_head path s w p no_raw piece h = cc
 put_text in_head path s w p no_raw piece h = text_inside head SettledBeforeBody path s w no_raw piece h
 put_text after_head path s w p no_raw piece h = cc
-put_text in_body path s w p no_raw piece h = text_inside body SettledBehindBody path s w no_raw piece h
-put_text after_body path s w p no_raw piece h = text_inside body SettledBehindBody path s w no_raw piece h
-put_text after_html path s w p no_raw piece h = text_inside body SettledBehindBody path s w no_raw piece h
+put_text in_body path s w p no_raw piece h = text_inside body SettledAfterBody path s w no_raw piece h
+put_text after_body path s w p no_raw piece h = text_inside body SettledAfterBody path s w no_raw piece h
+put_text after_html path s w p no_raw piece h = text_inside body SettledAfterBody path s w no_raw piece h
 
 pub ran_puts : (insertion_mode : InsertionMode) (path : List Element) (raw : Bool) (s : List ℕ) (w : List Event) → holds_texts insertion_mode ≡ true → is_in_raw path ≡ raw → raw ≡ false → has_byte 0 s ≡ false → is_utf8 s ≡ true → (is_in_blank path ≡ true → is_blank s ≡ true) → SettledAt insertion_mode path w → SettledAt insertion_mode path (pushes (texts raw s) w)
 ran_puts insertion_mode path raw [] w p r e zero utf8 blank h = h

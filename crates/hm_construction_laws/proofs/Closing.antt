@@ -7,22 +7,22 @@ use Rattle.hm_elements.specs.Names.{is_among, html, head, body}
 use Rattle.hm_elements.specs.Nesting.{noscript_children}
 use Rattle.hm_elements.specs.Paths.{html_element, is_in_svg, is_in_text, is_in_blank, stands_on}
 use Rattle.hm_elements.specs.Tables.{is_refused, is_metadata}
-use Rattle.hm_settle.specs.Moves.{Moves, moves, refuses, start_moves}
+use Rattle.hm_open_elements.specs.Moves.{Moves, moves, refuses, start_moves}
 use Rattle.hm_tree.specs.Tokens.{Seen}
 use Rattle.hm_tree.specs.Tokens as tokens
-use Rattle.hm_construction_laws.specs.Closing.{is_behind_body}
-use Rattle.hm_construction_laws.specs.Steps.{InsertionMode, initial, before_html, before_head, in_head, after_head, in_body, after_body, after_html, Construction, Stepped, went, stops, behind_events, behind_bytes as behind_refusal, then_step, at_front, no_drop, step_byte, step_bytes, step, keep_byte, space_byte, is_in_noscript, reach_body, body_byte, moved, under_html, under_head, under_body, make_head, close_head, make_body, closes_at_once, entered, drops_behind, end_event, starts, after_moves, start_in_body, opened, open_html, open_head, open_body_here, open_body, start_after_head, start_in_noscript, start_in_head, start_inside, is_outside, outside_rule, step_start, step_comment, step_doctype}
+use Rattle.hm_construction_laws.specs.Closing.{is_after_body}
+use Rattle.hm_construction_laws.specs.Steps.{InsertionMode, initial, before_html, before_head, in_head, after_head, in_body, after_body, after_html, Construction, Stepped, went, stops, stepped_after_events, after_bytes as after_refusal, then_step, at_front, no_drop, step_byte, step_bytes, step, keep_byte, space_byte, is_in_noscript, reach_body, body_byte, moved, under_html, under_head, under_body, make_head, close_head, make_body, closes_at_once, entered, drops_after, end_event, starts, after_moves, start_in_body, opened, open_html, open_head, open_body_here, open_body, start_after_head, start_in_noscript, start_in_head, start_inside, is_outside, outside_rule, step_start, step_comment, step_doctype}
 
 -- the step doesn't lead after body
 abbrev pub StaysOpen : Stepped → Type 0
-StaysOpen (went es st) = is_behind_body st.insertion_mode ≡ false
+StaysOpen (went es st) = is_after_body st.insertion_mode ≡ false
 StaysOpen (stops rule n) = Unit {0}
 
-later_open : (es : List Event) (o : Stepped) → StaysOpen o → StaysOpen (behind_events es o)
+later_open : (es : List Event) (o : Stepped) → StaysOpen o → StaysOpen (stepped_after_events es o)
 later_open es (went fs st) h = h
 later_open es (stops rule n) h = tt
 
-body_open : (c : ℕ) (st : Construction) → is_behind_body st.insertion_mode ≡ false → StaysOpen (body_byte c st)
+body_open : (c : ℕ) (st : Construction) → is_after_body st.insertion_mode ≡ false → StaysOpen (body_byte c st)
 body_open c st h = by (is_in_blank st.path)
   where
     by : (b : Bool) → StaysOpen (cond b (stops TextHere 0) (keep_byte c st))
@@ -38,7 +38,7 @@ in_head_open c st = later_open (end head false ∷ []) (make_body (body_byte c) 
 before_head_open : (c : ℕ) (st : Construction) → StaysOpen (make_head (close_head (make_body (body_byte c))) st)
 before_head_open c st = later_open (start head false [] ∷ []) (close_head (make_body (body_byte c)) (moved st in_head under_head)) (in_head_open c (moved st in_head under_head))
 
-reach_open : (mode : InsertionMode) (c : ℕ) (st : Construction) → is_behind_body st.insertion_mode ≡ false → StaysOpen (reach_body mode (body_byte c) st)
+reach_open : (mode : InsertionMode) (c : ℕ) (st : Construction) → is_after_body st.insertion_mode ≡ false → StaysOpen (reach_body mode (body_byte c) st)
 reach_open initial c st h = tt
 reach_open before_html c st h = later_open (start html false [] ∷ []) (make_head (close_head (make_body (body_byte c))) (moved st before_head under_html)) (before_head_open c (moved st before_head under_html))
 reach_open before_head c st h = before_head_open c st
@@ -48,7 +48,7 @@ reach_open in_body c st h = body_open c st h
 reach_open after_body c st h = tt
 reach_open after_html c st h = tt
 
-space_open : (mode : InsertionMode) (c : ℕ) (st : Construction) → is_behind_body st.insertion_mode ≡ false → StaysOpen (space_byte mode c st)
+space_open : (mode : InsertionMode) (c : ℕ) (st : Construction) → is_after_body st.insertion_mode ≡ false → StaysOpen (space_byte mode c st)
 space_open initial c st h = h
 space_open before_html c st h = h
 space_open before_head c st h = h
@@ -58,7 +58,7 @@ space_open in_body c st h = h
 space_open after_body c st h = h
 space_open after_html c st h = h
 
-byte_open : (c : ℕ) (st : Construction) → is_behind_body st.insertion_mode ≡ false → StaysOpen (step_byte c st)
+byte_open : (c : ℕ) (st : Construction) → is_after_body st.insertion_mode ≡ false → StaysOpen (step_byte c st)
 unfolding step_byte
 byte_open c st h = by (st.drops_line_feed && c == 10) (is_in_text st.path) (is_space c) (is_in_noscript st.insertion_mode st.path)
   where
@@ -69,29 +69,29 @@ byte_open c st h = by (st.drops_line_feed && c == 10) (is_in_text st.path) (is_s
     by false false false true = tt
     by false false false false = reach_open st.insertion_mode c (no_drop st) h
 
-pub bytes_open : (s : List ℕ) (st : Construction) → is_behind_body st.insertion_mode ≡ false → StaysOpen (step_bytes s st)
+pub bytes_open : (s : List ℕ) (st : Construction) → is_after_body st.insertion_mode ≡ false → StaysOpen (step_bytes s st)
 bytes_open [] st h = h
 bytes_open (c ∷ s) st h = by (step_byte c st) (byte_open c st h) (λ next k. bytes_open s next k)
   where
-    later : (o : Stepped) → StaysOpen o → StaysOpen (behind_refusal 1 o)
+    later : (o : Stepped) → StaysOpen o → StaysOpen (after_refusal 1 o)
     later (went es next) k = k
     later (stops rule n) k = tt
 
-    by : (o : Stepped) → StaysOpen o → ((next : Construction) → is_behind_body next.insertion_mode ≡ false → StaysOpen (step_bytes s next)) → StaysOpen (then_step o (λ next. behind_refusal 1 (step_bytes s next)))
-    by (went es next) k more = later_open es (behind_refusal 1 (step_bytes s next)) (later (step_bytes s next) (more next k))
+    by : (o : Stepped) → StaysOpen o → ((next : Construction) → is_after_body next.insertion_mode ≡ false → StaysOpen (step_bytes s next)) → StaysOpen (then_step o (λ next. after_refusal 1 (step_bytes s next)))
+    by (went es next) k more = later_open es (after_refusal 1 (step_bytes s next)) (later (step_bytes s next) (more next k))
     by (stops rule n) k more = tt
 
 -- ---- Start tags
 
-entered_open : (attributes : List Attribute) (slash : Bool) (st : Construction) (path : List Element) → is_behind_body st.insertion_mode ≡ false → StaysOpen (entered attributes slash st path)
+entered_open : (attributes : List Attribute) (slash : Bool) (st : Construction) (path : List Element) → is_after_body st.insertion_mode ≡ false → StaysOpen (entered attributes slash st path)
 entered_open attributes slash st [] h = h
 entered_open attributes slash st (e ∷ path) h = by (closes_at_once slash (e ∷ path))
   where
-    by : (b : Bool) → StaysOpen (cond b (went (start e.name e.foreign attributes ∷ end e.name e.foreign ∷ []) (record st { path = path })) (went (start e.name e.foreign attributes ∷ []) (record st { path = e ∷ path; drops_line_feed = drops_behind (e ∷ path) })))
+    by : (b : Bool) → StaysOpen (cond b (went (start e.name e.foreign attributes ∷ end e.name e.foreign ∷ []) (record st { path = path })) (went (start e.name e.foreign attributes ∷ []) (record st { path = e ∷ path; drops_line_feed = drops_after (e ∷ path) })))
     by true = h
     by false = h
 
-start_in_body_open : (n : List ℕ) (attributes : List Attribute) (slash : Bool) (st : Construction) → is_behind_body st.insertion_mode ≡ false → StaysOpen (start_in_body n attributes slash st)
+start_in_body_open : (n : List ℕ) (attributes : List Attribute) (slash : Bool) (st : Construction) → is_after_body st.insertion_mode ≡ false → StaysOpen (start_in_body n attributes slash st)
 start_in_body_open n attributes slash st h = by (start_moves n st.path)
   where
     by : (m : Moves) → StaysOpen (after_moves attributes slash st m)
@@ -140,14 +140,14 @@ module _ (n : List ℕ) (attributes : List Attribute) (slash : Bool) where
       by true = tt
       by false = later_open (start body false [] ∷ []) (start_in_body n attributes slash (moved st in_body under_body)) (start_in_body_open n attributes slash (moved st in_body under_body) refl)
 
-  in_noscript_open : (st : Construction) → is_behind_body st.insertion_mode ≡ false → StaysOpen (start_in_noscript n attributes st)
+  in_noscript_open : (st : Construction) → is_after_body st.insertion_mode ≡ false → StaysOpen (start_in_noscript n attributes st)
   in_noscript_open st h = by (is_among n noscript_children)
     where
       by : (b : Bool) → StaysOpen (cond b (opened n attributes st) (stops WrongParent 0))
       by true = entered_open attributes false st (html_element n ∷ st.path) h
       by false = tt
 
-  start_in_head_open : (st : Construction) → is_behind_body st.insertion_mode ≡ false → StaysOpen (start_in_head n attributes slash st)
+  start_in_head_open : (st : Construction) → is_after_body st.insertion_mode ≡ false → StaysOpen (start_in_head n attributes slash st)
   start_in_head_open st h = by (is_in_noscript in_head st.path) (stands_on n st.path)
     where
       by : (a b : Bool) → StaysOpen (cond a (start_in_noscript n attributes st) (cond b (opened n attributes st) (close_head (start_after_head n attributes slash) st)))
@@ -158,7 +158,7 @@ module _ (n : List ℕ) (attributes : List Attribute) (slash : Bool) where
   from_before_head : (st : Construction) → StaysOpen (make_head (start_in_head n attributes slash) st)
   from_before_head st = later_open (start head false [] ∷ []) (start_in_head n attributes slash (moved st in_head under_head)) (start_in_head_open (moved st in_head under_head) refl)
 
-  inside_open : (mode : InsertionMode) (st : Construction) → is_behind_body st.insertion_mode ≡ false → StaysOpen (start_inside mode n attributes slash st)
+  inside_open : (mode : InsertionMode) (st : Construction) → is_after_body st.insertion_mode ≡ false → StaysOpen (start_inside mode n attributes slash st)
   inside_open initial st h = start_in_body_open n attributes slash st h
   inside_open before_html st h = later_open (start html false [] ∷ []) (make_head (start_in_head n attributes slash) (moved st before_head under_html)) (from_before_head (moved st before_head under_html))
   inside_open before_head st h = from_before_head st
@@ -168,7 +168,7 @@ module _ (n : List ℕ) (attributes : List Attribute) (slash : Bool) where
   inside_open after_body st h = start_in_body_open n attributes slash st h
   inside_open after_html st h = start_in_body_open n attributes slash st h
 
-  start_open : (st : Construction) → is_behind_body st.insertion_mode ≡ false → StaysOpen (step_start n attributes slash st)
+  start_open : (st : Construction) → is_after_body st.insertion_mode ≡ false → StaysOpen (step_start n attributes slash st)
   unfolding step_start
   start_open st h = by (is_outside st.insertion_mode) (is_in_svg st.path) (is_refused n) (bytes_eq n html) (bytes_eq n head) (bytes_eq n body)
     where
@@ -185,7 +185,7 @@ module _ (n : List ℕ) (attributes : List Attribute) (slash : Bool) where
 
 -- ---- Any token
 
-comment_open : (mode : InsertionMode) (s : List ℕ) (st : Construction) → is_behind_body st.insertion_mode ≡ false → StaysOpen (step_comment mode s st)
+comment_open : (mode : InsertionMode) (s : List ℕ) (st : Construction) → is_after_body st.insertion_mode ≡ false → StaysOpen (step_comment mode s st)
 comment_open initial s st h = h
 comment_open before_html s st h = h
 comment_open before_head s st h = h
@@ -209,7 +209,7 @@ abbrev pub is_end_tag : Seen → Bool
 is_end_tag (tokens.end_tag n) = true
 is_end_tag token = false
 
-pub only_end_tags_close : (st : Construction) (token : Seen) → is_behind_body st.insertion_mode ≡ false → is_end_tag token ≡ false → StaysOpen (step st token)
+pub only_end_tags_close : (st : Construction) (token : Seen) → is_after_body st.insertion_mode ≡ false → is_end_tag token ≡ false → StaysOpen (step st token)
 unfolding step
 only_end_tags_close st (tokens.doctype legacy) h e = doctype_open st.insertion_mode legacy (no_drop st)
 only_end_tags_close st (tokens.start_tag n attributes slash) h e = start_open n attributes slash (no_drop st) h

@@ -7,10 +7,10 @@ use Rattle.hm_base.specs.declared.rules.Rule.TheVariants.{StrayEnd, NotCurrent}
 use Rattle.hm_elements.specs.Names.{is_among, head, body, noscript, p}
 use Rattle.hm_elements.specs.Tables.{is_raw, raw_names, is_rcdata, rcdata_names, holds_text}
 use Rattle.hm_elements.specs.Nesting.{ends_with, end_rows}
-use Rattle.hm_elements.specs.Paths.{html_element, is_in_svg, is_in_text, is_open, front, behind, falls_to}
+use Rattle.hm_elements.specs.Paths.{html_element, is_in_svg, is_in_text, is_open, front, rest_after, is_closed_by_end_of}
 use Rattle.hm_elements.specs.Settled.{is_html}
 use Rattle.hm_elements.proofs.TableTools.{same_bytes, entry_passes}
-use Rattle.hm_settle.specs.Moves.{moves, ends_nothing, end_on, html_end_moves, end_moves}
+use Rattle.hm_open_elements.specs.Moves.{moves, ends_nothing, end_on, html_end_moves, end_moves}
 use Rattle.hm_construction_laws.specs.Steps.{InsertionMode, initial, before_html, before_head, in_head, after_head, in_body, after_body, after_html, Construction, went, stops, moved, no_drop, under_html, under_head, under_body, end_event, after_end_moves, end_current, is_in_noscript}
 use Rattle.hm_construction_laws.proofs.Standing.{HeadOuter, at_head, at_noscript, HeadPath, outside_text, inside_text, BodyPath, at_body, inner, Shape, AtEnd, Good, Leads}
 use Rattle.hm_construction_laws.proofs.Made.{OpensTo}
@@ -28,7 +28,7 @@ body_ends_none : (k : List ℕ) → ends_with body k ≡ false
 unfolding ends_with end_rows is_among
 body_ends_none k = refl
 
-falls_body : (n : List ℕ) → falls_to n (html_element body) ≡ false
+falls_body : (n : List ℕ) → is_closed_by_end_of n (html_element body) ≡ false
 falls_body n = by (bytes_eq body n)
   where
     by : (c : Bool) → not c && ends_with body n ≡ false
@@ -73,7 +73,7 @@ end_leads n st path c other on_path = by (is_in_svg path)
   where
     by : (b : Bool) → Leads in_body path (after_end_moves (before_tag st in_body path) (cond b (end_on n [] path (is_open n path)) (html_end_moves n path)))
     by true = end_on_leads n st path [] path (is_open n path) c other (λ w h. h) on_path
-    by false = end_on_leads n st path (front (falls_to n) path) (behind (falls_to n) path) (is_open n path) c other (front_leads (falls_to n) path on_path (falls_body n)) (front_path (falls_to n) path on_path (falls_body n))
+    by false = end_on_leads n st path (front (is_closed_by_end_of n) path) (rest_after (is_closed_by_end_of n) path) (is_open n path) c other (front_leads (is_closed_by_end_of n) path on_path (falls_body n)) (front_path (is_closed_by_end_of n) path on_path (falls_body n))
 
 -- ---- The innermost element alone
 

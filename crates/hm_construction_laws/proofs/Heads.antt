@@ -7,11 +7,11 @@ use Rattle.hm_base.specs.Walks.{Event, start, end, Attribute, Element, begins_en
 use Rattle.hm_base.specs.declared.rules.Rule.TheVariants.{WrongParent, AfterHead}
 use Rattle.hm_elements.specs.Names.{words, is_among, head, noscript, svg}
 use Rattle.hm_elements.specs.Tables.{is_metadata, is_void, voids, is_refused, is_raw, raw_names, is_rcdata, rcdata_names, holds_text, closes_p, paragraph_ends, blocks, headings, is_unnested, unnested_names, is_heading, parts}
-use Rattle.hm_elements.specs.Nesting.{may_stand, children, noscript_children, yields, yield_rows}
+use Rattle.hm_elements.specs.Nesting.{may_stand, children, noscript_children, is_closed_by_start, yield_rows}
 use Rattle.hm_elements.specs.Paths.{html_element, is_in_svg, is_in_text, stands_on, head_yields, is_block_in_p, is_nested, is_deep}
 use Rattle.hm_elements.specs.Places.{AttributesAllowed, StartAllowed}
 use Rattle.hm_elements.proofs.TableTools.{same_bytes, entry_passes}
-use Rattle.hm_construction_laws.specs.Steps.{in_head, after_head, Construction, went, stops, under_html, under_head, under_body, close_head, make_body, is_in_noscript, drops_behind, opened, start_in_body, start_after_head, start_in_noscript, start_in_head}
+use Rattle.hm_construction_laws.specs.Steps.{in_head, after_head, Construction, went, stops, under_html, under_head, under_body, close_head, make_body, is_in_noscript, drops_after, opened, start_in_body, start_after_head, start_in_noscript, start_in_head}
 use Rattle.hm_construction_laws.proofs.Standing.{HeadOuter, at_head, at_noscript, HeadPath, outside_text, inside_text, at_body, Leads, closed_leads, body_leads, head_is}
 use Rattle.hm_construction_laws.proofs.Starts.{CommentsGood, raw_keeps, start_leads}
 use Rattle.hm_construction_laws.proofs.Ends.{before_tag}
@@ -20,7 +20,7 @@ use Rattle.hm_construction_laws.proofs.Ends.{before_tag}
 
 -- a name whose only condition in head is its parent
 abbrev is_plain : List ℕ → Bool
-is_plain n = not (bytes_eq n svg) && (not (closes_p n) && (not (is_unnested n) && (not (is_heading n) && (not (bytes_eq n head) && (not (yields head n) && not (yields noscript n))))))
+is_plain n = not (bytes_eq n svg) && (not (closes_p n) && (not (is_unnested n) && (not (is_heading n) && (not (bytes_eq n head) && (not (is_closed_by_start head n) && not (is_closed_by_start noscript n))))))
 
 -- it is void, holds a text, or is noscript
 abbrev is_kept : List ℕ → Bool
@@ -33,11 +33,11 @@ abbrev is_inner_child : List ℕ → Bool
 is_inner_child n = is_plain n && is_kept n
 
 head_children : list_all is_child (words "base link meta noscript script style title") ≡ true
-unfolding closes_p paragraph_ends blocks headings is_unnested unnested_names is_heading yields yield_rows parts is_void voids holds_text is_raw raw_names is_rcdata rcdata_names is_among
+unfolding closes_p paragraph_ends blocks headings is_unnested unnested_names is_heading is_closed_by_start yield_rows parts is_void voids holds_text is_raw raw_names is_rcdata rcdata_names is_among
 head_children = refl
 
 inner_children : list_all is_inner_child noscript_children ≡ true
-unfolding noscript_children closes_p paragraph_ends blocks headings is_unnested unnested_names is_heading yields yield_rows parts is_void voids holds_text is_raw raw_names is_rcdata rcdata_names is_among
+unfolding noscript_children closes_p paragraph_ends blocks headings is_unnested unnested_names is_heading is_closed_by_start yield_rows parts is_void voids holds_text is_raw raw_names is_rcdata rcdata_names is_among
 inner_children = refl
 
 stands_in_head : (n : List ℕ) → stands_on n under_head ≡ is_among n (words "base link meta noscript script style title")
@@ -54,8 +54,8 @@ pub record PlainChild (n : List ℕ) : Type 0 where
   pub no_own : is_unnested n ≡ false
   pub no_heading : is_heading n ≡ false
   pub no_head : bytes_eq n head ≡ false
-  pub head_keeps : yields head n ≡ false
-  pub noscript_keeps : yields noscript n ≡ false
+  pub head_keeps : is_closed_by_start head n ≡ false
+  pub noscript_keeps : is_closed_by_start noscript n ≡ false
 
 plain_child : (n : List ℕ) → is_plain n ≡ true → PlainChild n
 plain_child n h =
@@ -64,7 +64,7 @@ plain_child n h =
     let three = and_parts (not (is_unnested n)) _ two.1 in
     let four = and_parts (not (is_heading n)) _ three.1 in
     let five = and_parts (not (bytes_eq n head)) _ four.1 in
-    let six = and_parts (not (yields head n)) (not (yields noscript n)) five.1 in
+    let six = and_parts (not (is_closed_by_start head n)) (not (is_closed_by_start noscript n)) five.1 in
     record { no_svg = not-true _ one.0; no_block = not-true _ two.0; no_own = not-true _ three.0; no_heading = not-true _ four.0; no_head = not-true _ five.0; head_keeps = not-true _ six.0; noscript_keeps = not-true _ six.1 }
 
 -- an element that may open on a path in head
@@ -114,7 +114,7 @@ opened_leads : (n : List ℕ) (attributes : List Attribute) (st : Construction) 
 opened_leads n attributes st path c form allowed known o = by (is_void n) refl
   where
     by : (v : Bool) → is_void n ≡ v
-        → Leads in_head path (cond ((not false && v) || (false && false)) (went (start n false attributes ∷ end n false ∷ []) (record (before_tag st in_head path) { path = path })) (went (start n false attributes ∷ []) (record (before_tag st in_head path) { path = html_element n ∷ path; drops_line_feed = drops_behind (html_element n ∷ path) })))
+        → Leads in_head path (cond ((not false && v) || (false && false)) (went (start n false attributes ∷ end n false ∷ []) (record (before_tag st in_head path) { path = path })) (went (start n false attributes ∷ []) (record (before_tag st in_head path) { path = html_element n ∷ path; drops_line_feed = drops_after (html_element n ∷ path) })))
     by true h = (record { shape = outside_text path o.outer_path; inner_comments = c.0; last_comments = c.1; keeps = λ x. refl }, λ w s. (head_allowed n attributes path (end n false ∷ w) form allowed known o (λ v. refl), (refl, rw o.plain.no_head s)))
     by false h = (record { shape = o.then_path h; inner_comments = c.0; last_comments = c.1; keeps = raw_keeps (html_element n ∷ path) }, λ w s. (head_allowed n attributes path w form allowed known o (λ v. absurd (both_ways (is_void n) h v)), s))
 

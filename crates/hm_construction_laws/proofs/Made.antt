@@ -7,7 +7,7 @@ use Rattle.hm_base.specs.Forms.{is_small, is_tag_byte, is_tag_name}
 use Rattle.hm_base.specs.Walks.{Event, start, Element, pushes}
 use Rattle.hm_elements.specs.Names.{is_among, find, is_among_found, noscript, table, tbody, tr, td, th, col, colgroup, svg}
 use Rattle.hm_elements.specs.Tables.{is_void, voids, is_refused, refused_names, is_section, sections, is_heading, headings, is_unnested, unnested_names, closes_p, paragraph_ends, blocks, parts}
-use Rattle.hm_elements.specs.Nesting.{may_stand, children, stands_by_children, yields, yield_rows, made_under}
+use Rattle.hm_elements.specs.Nesting.{may_stand, children, stands_by_children, is_closed_by_start, yield_rows, made_under}
 use Rattle.hm_elements.specs.Paths.{html_element, current_name, is_in_svg, stands_on, head_yields, is_block_in_p, is_nested, is_deep}
 use Rattle.hm_elements.specs.Places.{StartAllowed, SettledBody}
 use Rattle.hm_elements.proofs.TableTools.{same_bytes, entry_passes}
@@ -93,7 +93,7 @@ made_allowed n path w no_svg form known no_void part outside stands kept shallow
     }
 
 in_table : (path : List Element) → (stands_on tbody (html_element table ∷ path) ≡ true) × (head_yields (html_element table ∷ path) tbody ≡ false) × (stands_on colgroup (html_element table ∷ path) ≡ true) × (head_yields (html_element table ∷ path) colgroup ≡ false)
-unfolding may_stand children yields yield_rows is_among
+unfolding may_stand children is_closed_by_start yield_rows is_among
 in_table path = (refl, refl, refl, refl)
 
 tbody_allowed : (path : List Element) (w : List Event) → is_deep (html_element tbody ∷ html_element table ∷ path) ≡ false → StartAllowed tbody false [] (html_element table ∷ path) w
@@ -103,22 +103,22 @@ colgroup_allowed : (path : List Element) (w : List Event) → is_deep (html_elem
 colgroup_allowed path w shallow = let f = in_table path in made_allowed colgroup (html_element table ∷ path) w refl part_in_form.1.1 part_known.1.1 part_voids.1.1 part_among.1.1 refl f.2 f.3 shallow
 
 abbrev holds_row : List ℕ → Bool
-holds_row t = not (yields t tr) && (not (bytes_eq t noscript) && is_among_found tr (find t children))
+holds_row t = not (is_closed_by_start t tr) && (not (bytes_eq t noscript) && is_among_found tr (find t children))
 
 sections_hold : list_all holds_row sections ≡ true
-unfolding yields yield_rows sections children parts is_among
+unfolding is_closed_by_start yield_rows sections children parts is_among
 sections_hold = refl
 
 found_stands : (n t : List ℕ) (g : Option (List ℕ)) (o : Option (List (List ℕ))) → is_among_found n o ≡ true → stands_by_children o n t g ≡ true
 found_stands n t g None h = cc
 found_stands n t g (Some names) h = h
 
-row_stands : (t : List ℕ) (path : List Element) → is_section t ≡ true → (stands_on tr (html_element t ∷ path) ≡ true) × (yields t tr ≡ false)
+row_stands : (t : List ℕ) (path : List Element) → is_section t ≡ true → (stands_on tr (html_element t ∷ path) ≡ true) × (is_closed_by_start t tr ≡ false)
 unfolding is_section may_stand
 row_stands t path h =
-    let both = and_parts (not (yields t tr)) (not (bytes_eq t noscript) && is_among_found tr (find t children)) (entry_passes holds_row t sections sections_hold h) in
+    let both = and_parts (not (is_closed_by_start t tr)) (not (bytes_eq t noscript) && is_among_found tr (find t children)) (entry_passes holds_row t sections sections_hold h) in
     let two = and_parts (not (bytes_eq t noscript)) (is_among_found tr (find t children)) both.1 in
-    (rw (not-true (bytes_eq t noscript) two.0) (found_stands tr t (current_name path) (find t children) two.1), not-true (yields t tr) both.0)
+    (rw (not-true (bytes_eq t noscript) two.0) (found_stands tr t (current_name path) (find t children) two.1), not-true (is_closed_by_start t tr) both.0)
 
 tr_allowed : (t : List ℕ) (path : List Element) (w : List Event) → is_section t ≡ true → is_deep (html_element tr ∷ html_element t ∷ path) ≡ false → StartAllowed tr false [] (html_element t ∷ path) w
 tr_allowed t path w h shallow = let f = row_stands t path h in made_allowed tr (html_element t ∷ path) w refl part_in_form.0 part_known.0 part_voids.0 part_among.0 refl f.0 f.1 shallow
@@ -136,18 +136,18 @@ made_leads t n made path (two_made m c) shallow w h =
 made_leads t n made path a_colgroup shallow w h = (colgroup_allowed path w shallow, h)
 made_leads t n made path (a_tr s m section c) shallow w h = (tr_allowed s path w section shallow, h)
 
-kept_by_made : (yields tbody tr ≡ false) × (yields colgroup col ≡ false)
-unfolding yields yield_rows parts is_among
+kept_by_made : (is_closed_by_start tbody tr ≡ false) × (is_closed_by_start colgroup col ≡ false)
+unfolding is_closed_by_start yield_rows parts is_among
 kept_by_made = (refl, refl)
 
-cells_kept : list_all (λ n. not (yields tr n) && is_among n part_names) (td ∷ th ∷ []) ≡ true
-unfolding yields yield_rows parts is_among
+cells_kept : list_all (λ n. not (is_closed_by_start tr n) && is_among n part_names) (td ∷ th ∷ []) ≡ true
+unfolding is_closed_by_start yield_rows parts is_among
 cells_kept = refl
 
-cell_kept : (n : List ℕ) → is_among n (td ∷ th ∷ []) ≡ true → (yields tr n ≡ false) × (is_among n part_names ≡ true)
+cell_kept : (n : List ℕ) → is_among n (td ∷ th ∷ []) ≡ true → (is_closed_by_start tr n ≡ false) × (is_among n part_names ≡ true)
 cell_kept n h =
-    let two = and_parts (not (yields tr n)) (is_among n part_names) (entry_passes (λ m. not (yields tr m) && is_among m part_names) n (td ∷ th ∷ []) cells_kept h) in
-    (not-true (yields tr n) two.0, two.1)
+    let two = and_parts (not (is_closed_by_start tr n)) (is_among n part_names) (entry_passes (λ m. not (is_closed_by_start tr m) && is_among m part_names) n (td ∷ th ∷ []) cells_kept h) in
+    (not-true (is_closed_by_start tr n) two.0, two.1)
 
 more_parts : (is_among tr part_names ≡ true) × (is_among col part_names ≡ true)
 unfolding is_among

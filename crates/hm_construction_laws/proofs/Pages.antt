@@ -15,7 +15,7 @@ use Rattle.hm_base.proofs.Faults.{no_zero}
 use Rattle.hm_refs.specs.Names.{Entry}
 use Rattle.hm_elements.specs.Settled.{Settled}
 use Rattle.hm_token_laws.specs.Laws.{IsPlain, SoundNames}
-use Rattle.hm_token_laws.proofs.Plain.{utf8_both, utf8_before, utf8_from, utf8_behind}
+use Rattle.hm_token_laws.proofs.Plain.{utf8_both, utf8_before, utf8_from, utf8_after}
 use Rattle.hm_construction_laws.specs.Trees.{built, unless_faulty, tree_of_text, page_tree}
 use Rattle.hm_construction_laws.proofs.Built.{what_is_built_is_settled}
 
@@ -84,14 +84,14 @@ feed_utf8 = refl
 feed_for_return : (u s : List ℕ) → is_utf8 (u ++ 13 ∷ s) ≡ true → is_utf8 ((u ++ 10 ∷ []) ++ s) ≡ true
 feed_for_return u s h =
     let before = utf8_before u s 13 (omega arith) h in
-    let after = utf8_behind s 13 (omega arith) (utf8_from u s 13 (omega arith) h) in
+    let after = utf8_after s 13 (omega arith) (utf8_from u s 13 (omega arith) h) in
     utf8_both (u ++ 10 ∷ []) s (utf8_both u (10 ∷ []) before feed_utf8) after
 
 -- and so does CR LF
 feed_for_pair : (u s : List ℕ) → is_utf8 (u ++ 13 ∷ 10 ∷ s) ≡ true → is_utf8 ((u ++ 10 ∷ []) ++ s) ≡ true
 feed_for_pair u s h =
     let before = utf8_before u (10 ∷ s) 13 (omega arith) h in
-    let after = utf8_behind s 10 (omega arith) (utf8_behind (10 ∷ s) 13 (omega arith) (utf8_from u (10 ∷ s) 13 (omega arith) h)) in
+    let after = utf8_after s 10 (omega arith) (utf8_after (10 ∷ s) 13 (omega arith) (utf8_from u (10 ∷ s) 13 (omega arith) h)) in
     utf8_both (u ++ 10 ∷ []) s (utf8_both u (10 ∷ []) before feed_utf8) after
 
 one_more : (u : List ℕ) (c : ℕ) (s : List ℕ) → is_text_byte c ≡ true → Lined (u ++ c ∷ []) s → Lined u (c ∷ s)
@@ -148,8 +148,8 @@ mark_bytes : encode 0xFEFF ≡ 0xEF ∷ 0xBB ∷ 0xBF ∷ []
 unfolding encode
 mark_bytes = refl
 
-behind_mark : (s : List ℕ) → is_utf8 (0xEF ∷ 0xBB ∷ 0xBF ∷ s) ≡ true → is_utf8 s ≡ true
-behind_mark s h = is_utf8-from_IsUtf8 s (IsUtf8-past_char (0xEF ∷ 0xBB ∷ 0xBF ∷ s) s 0xFEFF (IsUtf8-from_is_utf8 (0xEF ∷ 0xBB ∷ 0xBF ∷ s) h) (rw mark_bytes refl))
+after_mark : (s : List ℕ) → is_utf8 (0xEF ∷ 0xBB ∷ 0xBF ∷ s) ≡ true → is_utf8 s ≡ true
+after_mark s h = is_utf8-from_IsUtf8 s (IsUtf8-past_char (0xEF ∷ 0xBB ∷ 0xBF ∷ s) s 0xFEFF (IsUtf8-from_is_utf8 (0xEF ∷ 0xBB ∷ 0xBF ∷ s) h) (rw mark_bytes refl))
 
 unmarked : (s : List PlacedByte) → Clean [] (bytes s) → Clean [] (bytes (without_mark s))
 unmarked [] c = c
@@ -167,7 +167,7 @@ unmarked (a ∷ b ∷ d ∷ s) c = by (a.byte == 0xEF && (b.byte == 0xBB && d.by
         let f = and_parts (is_nonzero a.byte) (all_pass is_nonzero (b.byte ∷ d.byte ∷ bytes s)) c.nonzero in
         let g = and_parts (is_nonzero b.byte) (all_pass is_nonzero (d.byte ∷ bytes s)) f.1 in
         let h = and_parts (is_nonzero d.byte) (all_pass is_nonzero (bytes s)) g.1 in
-        record { utf8 = behind_mark (bytes s) (rw (x, y, z) at c.utf8); nonzero = h.1 }
+        record { utf8 = after_mark (bytes s) (rw (x, y, z) at c.utf8); nonzero = h.1 }
     by false e = c
 
 -- the text of a page that has one

@@ -2,14 +2,14 @@
 use Rattle.std.proofs.Common.{◌≡◌, ℕ, zero, suc, ◌+◌, Bool, true, false, cond, List, [], ◌∷◌, drop, Option, Some, None, refl, codes, arith}
 use Rattle.std.proofs.lemmas.Bool.{both_ways}
 use Rattle.hm_base.specs.Bytes.{strip}
-use Rattle.hm_base.specs.RawText.{begins_end_tag, place_from, raw_end, Mark, opens_comment, closes_comment, opens_script, closes_script, mark_at, with_mark, marks_from, ScriptState, unescaped, escaped, double_escaped, state_behind, ends_script, first_end, script_end}
+use Rattle.hm_base.specs.RawText.{begins_end_tag, place_from, raw_end, Mark, opens_comment, closes_comment, opens_script, closes_script, mark_at, with_mark, marks_from, ScriptState, unescaped, escaped, double_escaped, state_after, ends_script, first_end, script_end}
 use Rattle.hm_refs.specs.Names.{Entry}
 use Rattle.hm_tree.specs.Tokens.{doctype, start_tag, end_tag, slice, points, comment, Scanned, taken, refused}
 use Rattle.hm_tree.specs.declared.tokens.ScanFault.{ScanFault}
 use Rattle.hm_scan.specs.Tags.{CutTag, cut_tag, is_name_byte}
 use Rattle.hm_base.specs.Bytes as bytes
 use Rattle.hm_scan.specs.Reading.{read_tag, read_by, read_start, read_end, start_of, end_of, tag_name, tag_fault, unless_fault, read_attributes}
-use Rattle.hm_token_laws.specs.First.{Mode, behind_bytes, read_inside, read_nothing, unless_end, first}
+use Rattle.hm_token_laws.specs.First.{Mode, after_bytes, read_inside, read_nothing, unless_end, first}
 use Rattle.hm_construction_laws.proofs.Modes.{RawMode, of_script, of_raw}
 
 -- ---- Where a text ends, its end tag stands
@@ -69,9 +69,9 @@ script_there (c ∷ s) state i k h = by (mark_at (c ∷ s)) refl (λ next e. scr
     later f = record { count = suc f.count; place = let p = f.place in omega arith; there = f.there }
 
     by_end : (m : Mark) → mark_at (c ∷ s) ≡ Some m → (b : Bool) → ends_script state m ≡ b → ((next : ScriptState) → first_end next (marks_from (suc i) s) ≡ Some k → Found (λ r. is_closing (mark_at r)) s (suc i) k)
-        → cond b (Some i) (first_end (state_behind state m) (marks_from (suc i) s)) ≡ Some k → Found (λ r. is_closing (mark_at r)) (c ∷ s) i k
+        → cond b (Some i) (first_end (state_after state m) (marks_from (suc i) s)) ≡ Some k → Found (λ r. is_closing (mark_at r)) (c ∷ s) i k
     by_end m e true b more h' = let is : i ≡ k = cc in record { count = 0; place = omega (arith, is); there = rw e (closing_ends state m b) }
-    by_end m e false b more h' = later (more (state_behind state m) h')
+    by_end m e false b more h' = later (more (state_after state m) h')
 
     by : (o : Option Mark) → mark_at (c ∷ s) ≡ o → ((next : ScriptState) → first_end next (marks_from (suc i) s) ≡ Some k → Found (λ r. is_closing (mark_at r)) s (suc i) k) → first_end state (with_mark o i (marks_from (suc i) s)) ≡ Some k → Found (λ r. is_closing (mark_at r)) (c ∷ s) i k
     by None e more h' = later (more state h')
@@ -128,19 +128,19 @@ unfolding read_tag read_start read_end
 tag_is_read t s = by (strip (codes "</") s)
   where
     by : (o : Option (List ℕ)) → IsTag (read_by t o (drop 1 s))
-    by None = start_is_tag t (tag_name (drop 1 s)) (cut_tag (bytes.behind is_name_byte (drop 1 s)))
-    by (Some r) = end_is_tag (tag_name r) (cut_tag (bytes.behind is_name_byte r))
+    by None = start_is_tag t (tag_name (drop 1 s)) (cut_tag (bytes.after is_name_byte (drop 1 s)))
+    by (Some r) = end_is_tag (tag_name r) (cut_tag (bytes.after is_name_byte r))
 
 -- the end tag of a text is read here
 abbrev pub TagHere : List Entry → Mode → List ℕ → Type 0
 TagHere t mode s = first t mode s ≡ unless_end s (read_tag t s)
 
-slice_inside : (t : List Entry) (s : List ℕ) (o : Option ℕ) (n : ℕ) (x rest : List ℕ) → unless_end s (read_inside t s o read_nothing) ≡ behind_bytes n (taken (slice x) rest) → (k : ℕ) × ((o ≡ Some k) × (rest ≡ drop k s))
+slice_inside : (t : List Entry) (s : List ℕ) (o : Option ℕ) (n : ℕ) (x rest : List ℕ) → unless_end s (read_inside t s o read_nothing) ≡ after_bytes n (taken (slice x) rest) → (k : ℕ) × ((o ≡ Some k) × (rest ≡ drop k s))
 slice_inside t [] o n x rest h = cc
 slice_inside t (c ∷ s) None n x rest h = cc
 slice_inside t (c ∷ s) (Some zero) n x rest h = absurd (by (read_tag t (c ∷ s)) (tag_is_read t (c ∷ s)) h)
   where
-    by : (y : Scanned) → IsTag y → behind_bytes 0 y ≡ behind_bytes n (taken (slice x) rest) → ⊥
+    by : (y : Scanned) → IsTag y → after_bytes 0 y ≡ after_bytes n (taken (slice x) rest) → ⊥
     by (taken (start_tag name attributes slash) r) i e = cc
     by (taken (end_tag name) r) i e = cc
     by (taken (doctype legacy) r) i e = absurd i
@@ -151,13 +151,13 @@ slice_inside t (c ∷ s) (Some zero) n x rest h = absurd (by (read_tag t (c ∷ 
 slice_inside t (c ∷ s) (Some (suc k)) n x rest h = (suc k, (refl, cc))
 
 -- after a raw text its end tag is read
-pub tag_behind : (t : List Entry) (name : List ℕ) (mode : Mode) (s : List ℕ) (n : ℕ) (x rest : List ℕ) → RawMode name mode → first t mode s ≡ behind_bytes n (taken (slice x) rest) → TagHere t mode rest
+pub tag_after : (t : List Entry) (name : List ℕ) (mode : Mode) (s : List ℕ) (n : ℕ) (x rest : List ℕ) → RawMode name mode → first t mode s ≡ after_bytes n (taken (slice x) rest) → TagHere t mode rest
 unfolding first
-tag_behind t name mode s n x rest (of_script e) h =
+tag_after t name mode s n x rest (of_script e) h =
     let f = slice_inside t s (script_end s) n x rest h in
     let e : script_end rest ≡ Some 0 = rw f.1.1 (script_ends_there s f.0 f.1.0) in
     rw e refl
-tag_behind t name mode s n x rest (of_raw e) h =
+tag_after t name mode s n x rest (of_raw e) h =
     let f = slice_inside t s (raw_end name s) n x rest h in
     let e : raw_end name rest ≡ Some 0 = rw f.1.1 (raw_ends_there name s f.0 f.1.0) in
     rw e refl

@@ -2,7 +2,7 @@
 use Rattle.std.proofs.Common.{◌≡◌, ℕ, zero, suc, pred, ◌-◌, ◌+◌, ◌<◌, ◌≤◌, Bool, true, false, cond, ◌&&◌, ◌==◌, List, [], ◌∷◌, ◌++◌, length, take, drop, Option, Some, None, refl, sym, ◌∙◌, ap, subst, codes, append_assoc, arith, length-append}
 use Rattle.std.specs.Option.{option_or}
 use Rattle.std.proofs.lemmas.List.{take-append-drop}
-use Rattle.hm_base.specs.Bytes.{Cut, behind, strip, head_is, is_space, is_null, cut_at, or_go_on}
+use Rattle.hm_base.specs.Bytes.{Cut, rest_after, strip, head_is, is_space, is_null, cut_at, or_go_on}
 use Rattle.hm_base.specs.RawText.{raw_end, script_end}
 use Rattle.hm_base.specs.Walks.{Attribute}
 use Rattle.hm_refs.specs.Names.{Entry}
@@ -14,10 +14,10 @@ use Rattle.hm_scan.specs.Tags.{CutTag, tag_from, cut_tag, is_name_byte, is_tag_e
 use Rattle.hm_scan.specs.Reading.{read_tag, read_by, read_start, read_end, start_of, end_of, tag_name, tag_fault, unless_fault, begins_tag, read_attributes}
 use Rattle.hm_scan.specs.Texts.{read_text, plain_front, reference_in, begins_markup}
 use Rattle.hm_scan.specs.Texts as texts
-use Rattle.hm_scan.specs.Comments.{read_comment, comment_at, cut_comment, cut_where, behind_end, at_once, begins, read_cdata, begins_cdata}
+use Rattle.hm_scan.specs.Comments.{read_comment, comment_at, cut_comment, cut_where, after_end, at_once, begins, read_cdata, begins_cdata}
 use Rattle.hm_scan.specs.Doctypes.{read_doctype, begins_doctype, as_doctype, by_form, doctype_form}
 use Rattle.hm_scan.specs.Pieces.{as_comment, as_slice}
-use Rattle.hm_token_laws.specs.First.{Mode, ordinary, in_svg, rcdata, raw, script, Next, at_end, behind_bytes, read_markup, read_here, three_more, behind_none, behind_empty_tags, next_here, before_rest, read_inside, read_references, read_nothing, unless_end, first}
+use Rattle.hm_token_laws.specs.First.{Mode, ordinary, in_svg, rcdata, raw, script, Next, at_end, after_bytes, read_markup, read_here, three_more, nothing_skipped, after_empty_tags, next_here, before_rest, read_inside, read_references, read_nothing, unless_end, first}
 use Rattle.hm_token_laws.specs.Laws.{SoundNames, IsMode, least_size}
 use Rattle.hm_token_laws.proofs.Firsts.{tokens_are_small}
 
@@ -37,12 +37,12 @@ ends_on s r rest e f = (e.0 ++ f.0, e.1 ∙ ap (λ x. e.0 ++ x) f.1 ∙ sym (app
 ends_drop : (n : ℕ) (s : List ℕ) → Ends s (drop n s)
 ends_drop n s = (take n s, sym (take-append-drop n s))
 
-ends_behind : (p : ℕ → Bool) (s : List ℕ) → Ends s (behind p s)
-ends_behind p [] = ends_here []
-ends_behind p (c ∷ s) = by (p c) (ends_behind p s)
+ends_after : (p : ℕ → Bool) (s : List ℕ) → Ends s (rest_after p s)
+ends_after p [] = ends_here []
+ends_after p (c ∷ s) = by (p c) (ends_after p s)
   where
-    by : (b : Bool) → Ends s (behind p s) → Ends (c ∷ s) (cond b (behind p s) (c ∷ s))
-    by true e = ends_more c s (behind p s) e
+    by : (b : Bool) → Ends s (rest_after p s) → Ends (c ∷ s) (cond b (rest_after p s) (c ∷ s))
+    by true e = ends_more c s (rest_after p s) e
     by false e = ends_here (c ∷ s)
 
 -- a rest that was found is the end of s
@@ -66,12 +66,12 @@ ends_either s (Some x) b e f = e
 
 abbrev EndsCut : List ℕ → Option Cut → Type 0
 EndsCut s None = Unit {0}
-EndsCut s (Some k) = Ends s k.behind
+EndsCut s (Some k) = Ends s k.after
 
 cut_goes_on : (c : ℕ) (s : List ℕ) (o : Option (List ℕ)) (k : Option Cut) → EndsFound (c ∷ s) o → EndsCut s k → EndsCut (c ∷ s) (or_go_on o c k)
 cut_goes_on c s (Some rest) k e f = e
 cut_goes_on c s None None e f = tt
-cut_goes_on c s None (Some k) e f = ends_more c s k.behind f
+cut_goes_on c s None (Some k) e f = ends_more c s k.after f
 
 ends_cut : (mark s : List ℕ) → EndsCut s (cut_at mark s)
 ends_cut mark [] = tt
@@ -83,7 +83,7 @@ ends_cut_where find all (c ∷ s) = cut_goes_on c s (find (c ∷ s)) (cut_where 
 
 cut_on : (s r : List ℕ) (o : Option Cut) → Ends s r → EndsCut r o → EndsCut s o
 cut_on s r None e f = tt
-cut_on s r (Some k) e f = ends_on s r k.behind e f
+cut_on s r (Some k) e f = ends_on s r k.after e f
 
 abbrev EndsTag : List ℕ → Option CutTag → Type 0
 EndsTag s None = Unit {0}
@@ -143,11 +143,11 @@ end_ends name s (Some g) e = unless_ends s (tag_fault name g.attributes) (end_ta
 
 start_read_ends : (t : List Entry) (s : List ℕ) → EndsRead s (read_start t s)
 unfolding read_start
-start_read_ends t s = read_on s (behind is_name_byte s) (start_of t (tag_name s) (cut_tag (behind is_name_byte s))) (ends_behind is_name_byte s) (start_ends t (tag_name s) (behind is_name_byte s) (cut_tag (behind is_name_byte s)) (ends_tag 0 (behind is_name_byte s)))
+start_read_ends t s = read_on s (rest_after is_name_byte s) (start_of t (tag_name s) (cut_tag (rest_after is_name_byte s))) (ends_after is_name_byte s) (start_ends t (tag_name s) (rest_after is_name_byte s) (cut_tag (rest_after is_name_byte s)) (ends_tag 0 (rest_after is_name_byte s)))
 
 end_read_ends : (s : List ℕ) → EndsRead s (read_end s)
 unfolding read_end
-end_read_ends s = read_on s (behind is_name_byte s) (end_of (tag_name s) (cut_tag (behind is_name_byte s))) (ends_behind is_name_byte s) (end_ends (tag_name s) (behind is_name_byte s) (cut_tag (behind is_name_byte s)) (ends_tag 0 (behind is_name_byte s)))
+end_read_ends s = read_on s (rest_after is_name_byte s) (end_of (tag_name s) (cut_tag (rest_after is_name_byte s))) (ends_after is_name_byte s) (end_ends (tag_name s) (rest_after is_name_byte s) (cut_tag (rest_after is_name_byte s)) (ends_tag 0 (rest_after is_name_byte s)))
 
 tag_ends : (t : List Entry) (s : List ℕ) → EndsRead s (read_tag t s)
 unfolding read_tag
@@ -160,8 +160,8 @@ tag_ends t s = by (strip (codes "</") s) (ends_strip (codes "</") s)
 comment_cut_ends : (s : List ℕ) → EndsCut s (cut_comment s)
 comment_cut_ends s = by (option_or (strip (codes ">") s) (strip (codes "->") s)) (ends_either s (strip (codes ">") s) (strip (codes "->") s) (ends_strip (codes ">") s) (ends_strip (codes "->") s))
   where
-    by : (o : Option (List ℕ)) → EndsFound s o → EndsCut s (at_once o (cut_where behind_end s))
-    by None e = ends_cut_where behind_end (λ r. ends_either r (strip (codes "-->") r) (strip (codes "--!>") r) (ends_strip (codes "-->") r) (ends_strip (codes "--!>") r)) s
+    by : (o : Option (List ℕ)) → EndsFound s o → EndsCut s (at_once o (cut_where after_end s))
+    by None e = ends_cut_where after_end (λ r. ends_either r (strip (codes "-->") r) (strip (codes "--!>") r) (ends_strip (codes "-->") r) (ends_strip (codes "--!>") r)) s
     by (Some rest) e = e
 
 comment_place_ends : (s : List ℕ) → EndsCut s (comment_at s)
@@ -198,7 +198,7 @@ doctype_ends s = by (cut_at (codes ">") (drop 9 s)) (cut_on s (drop 9 s) (cut_at
   where
     by : (o : Option Cut) → EndsCut s o → EndsRead s (as_doctype o)
     by None e = tt
-    by (Some k) e = form_ends s (doctype_form k.before) k.behind e
+    by (Some k) e = form_ends s (doctype_form k.before) k.after e
 
 text_ends : (t : List Entry) (r : Bool) (s : List ℕ) → EndsRead s (read_text t r s)
 unfolding read_text
@@ -225,26 +225,26 @@ here_ends t foreign s = by (begins_markup s)
     by true = markup_ends t foreign s
     by false = text_ends t false s
 
-empty_tags_end : (s : List ℕ) → Ends s (behind_empty_tags s).rest
+empty_tags_end : (s : List ℕ) → Ends s (after_empty_tags s).rest
 empty_tags_end [] = ends_here []
 empty_tags_end (a ∷ []) = ends_here (a ∷ [])
 empty_tags_end (a ∷ b ∷ []) = ends_here (a ∷ b ∷ [])
 empty_tags_end (a ∷ b ∷ c ∷ s) = by (a == 60 && (b == 47 && c == 62)) (empty_tags_end s)
   where
-    by : (k : Bool) → Ends s (behind_empty_tags s).rest → Ends (a ∷ b ∷ c ∷ s) (cond k (three_more (behind_empty_tags s)) (behind_none (a ∷ b ∷ c ∷ s))).rest
-    by true e = ends_more a (b ∷ c ∷ s) _ (ends_more b (c ∷ s) _ (ends_more c s (behind_empty_tags s).rest e))
+    by : (k : Bool) → Ends s (after_empty_tags s).rest → Ends (a ∷ b ∷ c ∷ s) (cond k (three_more (after_empty_tags s)) (nothing_skipped (a ∷ b ∷ c ∷ s))).rest
+    by true e = ends_more a (b ∷ c ∷ s) _ (ends_more b (c ∷ s) _ (ends_more c s (after_empty_tags s).rest e))
     by false e = ends_here (a ∷ b ∷ c ∷ s)
 
 abbrev pub EndsNext : List ℕ → Next → Type 0
 EndsNext s at_end = Unit {0}
-EndsNext s (behind_bytes n x) = EndsRead s x
+EndsNext s (after_bytes n x) = EndsRead s x
 
-next_ends : (t : List Entry) (foreign : Bool) (s : List ℕ) → EndsNext s (next_here t foreign (behind_empty_tags s))
-next_ends t foreign s = by (is_null (behind_empty_tags s).rest)
+next_ends : (t : List Entry) (foreign : Bool) (s : List ℕ) → EndsNext s (next_here t foreign (after_empty_tags s))
+next_ends t foreign s = by (is_null (after_empty_tags s).rest)
   where
-    by : (k : Bool) → EndsNext s (cond k at_end (behind_bytes (behind_empty_tags s).count (read_here t foreign (behind_empty_tags s).rest)))
+    by : (k : Bool) → EndsNext s (cond k at_end (after_bytes (after_empty_tags s).count (read_here t foreign (after_empty_tags s).rest)))
     by true = tt
-    by false = read_on s (behind_empty_tags s).rest (read_here t foreign (behind_empty_tags s).rest) (empty_tags_end s) (here_ends t foreign (behind_empty_tags s).rest)
+    by false = read_on s (after_empty_tags s).rest (read_here t foreign (after_empty_tags s).rest) (empty_tags_end s) (here_ends t foreign (after_empty_tags s).rest)
 
 before_ends : (s rest : List ℕ) (x : Scanned) → EndsRead s x → EndsRead (s ++ rest) (before_rest x rest)
 before_ends s rest (taken token r) e = (e.0, ap (λ y. y ++ rest) e.1 ∙ append_assoc e.0 r rest)
@@ -289,7 +289,7 @@ rest_reached s rest e =
 -- ---- Where a text is read on
 
 -- a token takes some bytes
-pub shorter : (t : List Entry) (mode : Mode) (s : List ℕ) (n : ℕ) (token : Seen) (rest : List ℕ) → SoundNames t → IsMode mode → first t mode s ≡ behind_bytes n (taken token rest) → length rest < length s
+pub shorter : (t : List Entry) (mode : Mode) (s : List ℕ) (n : ℕ) (token : Seen) (rest : List ℕ) → SoundNames t → IsMode mode → first t mode s ≡ after_bytes n (taken token rest) → length rest < length s
 shorter t mode s n token rest names m h =
     let k = tokens_are_small t mode s n token rest names m h in
     let some : 1 ≤ least_size token = least token in
@@ -308,8 +308,8 @@ one_skipped c s rest zero some h = absurd (omega arith)
 one_skipped c s rest (suc m) some h = h
 
 -- the rest after a token is where the text is read on
-pub rest_is : (t : List Entry) (mode : Mode) (c : ℕ) (s : List ℕ) (n : ℕ) (token : Seen) (rest : List ℕ) → SoundNames t → IsMode mode → first t mode (c ∷ s) ≡ behind_bytes n (taken token rest) → drop (pred (length (c ∷ s) - length rest)) s ≡ rest
+pub rest_is : (t : List Entry) (mode : Mode) (c : ℕ) (s : List ℕ) (n : ℕ) (token : Seen) (rest : List ℕ) → SoundNames t → IsMode mode → first t mode (c ∷ s) ≡ after_bytes n (taken token rest) → drop (pred (length (c ∷ s) - length rest)) s ≡ rest
 rest_is t mode c s n token rest names m h =
     let less = shorter t mode (c ∷ s) n token rest names m h in
-    let e : EndsNext (c ∷ s) (behind_bytes n (taken token rest)) = subst (EndsNext (c ∷ s)) h (first_ends t mode (c ∷ s)) in
+    let e : EndsNext (c ∷ s) (after_bytes n (taken token rest)) = subst (EndsNext (c ∷ s)) h (first_ends t mode (c ∷ s)) in
     one_skipped c s rest (length (c ∷ s) - length rest) (omega arith) (rest_reached (c ∷ s) rest e)

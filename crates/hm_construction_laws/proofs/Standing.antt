@@ -7,7 +7,7 @@ use Rattle.hm_elements.specs.Tables.{holds_text}
 use Rattle.hm_elements.specs.Paths.{html_element, is_in_svg, is_in_raw, is_in_text}
 use Rattle.hm_elements.specs.Settled.{is_html}
 use Rattle.hm_elements.specs.Places.{AttributesAllowed, RootAllowed, CommentAllowed, SettledBody, SettledBeforeBody, SettledHead, SettledBeforeHead, SettledBeforeHtml, SettledPage}
-use Rattle.hm_construction_laws.specs.Steps.{InsertionMode, initial, before_html, before_head, in_head, after_head, in_body, after_body, after_html, Construction, Stepped, went, stops, behind_events, behind_bytes, moved, under_html, under_head, under_body, make_html, make_head, close_head, make_body, reach_body, is_in_noscript}
+use Rattle.hm_construction_laws.specs.Steps.{InsertionMode, initial, before_html, before_head, in_head, after_head, in_body, after_body, after_html, Construction, Stepped, went, stops, stepped_after_events, after_bytes, moved, under_html, under_head, under_body, make_html, make_head, close_head, make_body, reach_body, is_in_noscript}
 
 -- head, or noscript in it
 pub data HeadOuter : List Element → Type 0 where
@@ -57,8 +57,8 @@ AllComments (s ∷ ss) = CommentAllowed [] s × AllComments ss
 -- what is known of a state between two tokens
 pub record Good (st : Construction) : Type 0 where
   pub shape : Shape st.insertion_mode st.path
-  pub inner_comments : AllComments st.behind_body
-  pub last_comments : AllComments st.behind_html
+  pub inner_comments : AllComments st.comments_after_body
+  pub last_comments : AllComments st.comments_after_html
   pub keeps : is_in_raw st.path ≡ true → st.drops_line_feed ≡ false
 
 -- what a step makes stands before what is settled after it
@@ -70,11 +70,11 @@ pub pushes_append : (es fs w : List Event) → pushes (es ++ fs) w ≡ pushes es
 pushes_append [] fs w = refl
 pushes_append (e ∷ es) fs w = ap (pushed e) (pushes_append es fs w)
 
-pub behind_leads : (insertion_mode insertion_mode' : InsertionMode) (path path' : List Element) (es : List Event) (s : Stepped) → ((w : List Event) → SettledAt insertion_mode' path' w → SettledAt insertion_mode path (pushes es w)) → Leads insertion_mode' path' s → Leads insertion_mode path (behind_events es s)
-behind_leads insertion_mode insertion_mode' path path' es (went fs st) put l = (l.0, λ w h. rw (pushes_append es fs w) (put (pushes fs w) (l.1 w h)))
-behind_leads insertion_mode insertion_mode' path path' es (stops rule n) put l = tt
+pub after_leads : (insertion_mode insertion_mode' : InsertionMode) (path path' : List Element) (es : List Event) (s : Stepped) → ((w : List Event) → SettledAt insertion_mode' path' w → SettledAt insertion_mode path (pushes es w)) → Leads insertion_mode' path' s → Leads insertion_mode path (stepped_after_events es s)
+after_leads insertion_mode insertion_mode' path path' es (went fs st) put l = (l.0, λ w h. rw (pushes_append es fs w) (put (pushes fs w) (l.1 w h)))
+after_leads insertion_mode insertion_mode' path path' es (stops rule n) put l = tt
 
-pub later_leads : (insertion_mode : InsertionMode) (path : List Element) (n : ℕ) (s : Stepped) → Leads insertion_mode path s → Leads insertion_mode path (behind_bytes n s)
+pub later_leads : (insertion_mode : InsertionMode) (path : List Element) (n : ℕ) (s : Stepped) → Leads insertion_mode path s → Leads insertion_mode path (after_bytes n s)
 later_leads insertion_mode path n (went fs st) l = l
 later_leads insertion_mode path n (stops rule k) l = tt
 
@@ -85,16 +85,16 @@ root_made : (n : List ℕ) → RootAllowed n n false []
 root_made n = record { name = refl; kind = refl; attributes_allowed = no_attributes }
 
 pub html_leads : (path : List Element) (st : Construction) (more : Construction → Stepped) → Leads before_head under_html (more (moved st before_head under_html)) → Leads before_html path (make_html more st)
-html_leads path st more l = behind_leads before_html before_head path under_html (start html false [] ∷ []) (more (moved st before_head under_html)) (λ w h. (root_made html, h)) l
+html_leads path st more l = after_leads before_html before_head path under_html (start html false [] ∷ []) (more (moved st before_head under_html)) (λ w h. (root_made html, h)) l
 
 pub head_leads : (path : List Element) (st : Construction) (more : Construction → Stepped) → Leads in_head under_head (more (moved st in_head under_head)) → Leads before_head path (make_head more st)
-head_leads path st more l = behind_leads before_head in_head path under_head (start head false [] ∷ []) (more (moved st in_head under_head)) (λ w h. (root_made head, h)) l
+head_leads path st more l = after_leads before_head in_head path under_head (start head false [] ∷ []) (more (moved st in_head under_head)) (λ w h. (root_made head, h)) l
 
 pub closed_leads : (st : Construction) (more : Construction → Stepped) → Leads after_head under_html (more (moved st after_head under_html)) → Leads in_head under_head (close_head more st)
-closed_leads st more l = behind_leads in_head after_head under_head under_html (end head false ∷ []) (more (moved st after_head under_html)) (λ w h. (refl, h)) l
+closed_leads st more l = after_leads in_head after_head under_head under_html (end head false ∷ []) (more (moved st after_head under_html)) (λ w h. (refl, h)) l
 
 pub body_leads : (path : List Element) (st : Construction) (more : Construction → Stepped) → Leads in_body under_body (more (moved st in_body under_body)) → Leads after_head path (make_body more st)
-body_leads path st more l = behind_leads after_head in_body path under_body (start body false [] ∷ []) (more (moved st in_body under_body)) (λ w h. (root_made body, h)) l
+body_leads path st more l = after_leads after_head in_body path under_body (start body false [] ∷ []) (more (moved st in_body under_body)) (λ w h. (root_made body, h)) l
 
 outer_is : (path : List Element) → HeadOuter path → is_in_noscript in_head path ≡ false → path ≡ under_head
 outer_is path at_head n = refl

@@ -7,15 +7,15 @@ use Rattle.hm_base.specs.Walks.{Event, start, end, Attribute, Element, pushes, b
 use Rattle.hm_base.specs.declared.rules.Rule.TheVariants.{RefusedName, SecondRoot, BlockInParagraph, Nested, WrongParent, TooDeep, ForeignName}
 use Rattle.hm_elements.specs.Names.{words, is_among, body, svg, html}
 use Rattle.hm_elements.specs.Tables.{is_root, roots, is_void, is_refused, is_svg_name, holds_svg_text, is_raw, raw_names}
-use Rattle.hm_elements.specs.Nesting.{yields, yield_rows, made_under}
-use Rattle.hm_elements.specs.Paths.{html_element, current, is_in_svg, is_in_raw, stands_on, head_yields, is_block_in_p, is_nested, is_deep, front, behind, yields_to, made_on}
+use Rattle.hm_elements.specs.Nesting.{is_closed_by_start, yield_rows, made_under}
+use Rattle.hm_elements.specs.Paths.{html_element, current, is_in_svg, is_in_raw, stands_on, head_yields, is_block_in_p, is_nested, is_deep, front, rest_after, is_closed_by_start_of, made_on}
 use Rattle.hm_elements.specs.Settled.{is_html}
 use Rattle.hm_elements.specs.Places.{AttributesAllowed, StartAllowed, SettledBody}
 use Rattle.hm_elements.proofs.TableTools.{same_bytes, entry_passes}
 use Rattle.hm_elements.proofs.TableFacts.{svg_is_plain}
-use Rattle.hm_settle.specs.Moves.{moves, refuses, element, opens, opens_in_place, start_on, svg_start_moves, html_start_moves, start_moves, is_void_open}
-use Rattle.hm_construction_laws.specs.Steps.{in_body, Construction, went, behind_events, moved, no_drop, under_body, drops_behind, closes_at_once, entered, end_event, starts, after_moves, start_in_body}
-use Rattle.hm_construction_laws.proofs.Standing.{BodyPath, at_body, inner, AllComments, Leads, behind_leads, pushes_append}
+use Rattle.hm_open_elements.specs.Moves.{moves, refuses, element, opens, opens_in_place, start_on, svg_start_moves, html_start_moves, start_moves, is_void_open}
+use Rattle.hm_construction_laws.specs.Steps.{in_body, Construction, went, stepped_after_events, moved, no_drop, under_body, drops_after, closes_at_once, entered, end_event, starts, after_moves, start_in_body}
+use Rattle.hm_construction_laws.proofs.Standing.{BodyPath, at_body, inner, AllComments, Leads, after_leads, pushes_append}
 use Rattle.hm_construction_laws.proofs.Made.{OpensTo, made_cases, made_leads, Free, made_free, made_path}
 
 -- ---- The element opens
@@ -28,7 +28,7 @@ unfolding raw_names is_among
 raw_drops_none = refl
 
 -- no line feed is dropped in a raw text
-pub raw_keeps : (path : List Element) → is_in_raw path ≡ true → drops_behind path ≡ false
+pub raw_keeps : (path : List Element) → is_in_raw path ≡ true → drops_after path ≡ false
 unfolding is_raw
 raw_keeps [] h = refl
 raw_keeps (e ∷ path) h =
@@ -51,7 +51,7 @@ pub record Opening (e : Element) (path : List Element) : Type 0 where
   pub on_path : BodyPath path
 
 abbrev pub CommentsGood : Construction → Type 0
-CommentsGood st = AllComments st.behind_body × AllComments st.behind_html
+CommentsGood st = AllComments st.comments_after_body × AllComments st.comments_after_html
 
 pub entered_leads : (attributes : List Attribute) (slash : Bool) (st : Construction) (old : List Element) (e : Element) (path : List Element) → CommentsGood st → Opening e path
     → ((w : List Event) → (is_void_open (e ∷ path) ≡ true → begins_end w ≡ true) → StartAllowed e.name e.foreign attributes path w)
@@ -65,52 +65,52 @@ entered_leads attributes slash st old e path c o allowed = by (closes_at_once sl
     closed w h = (allowed (end e.name e.foreign ∷ w) (λ v. refl), (refl, rw o.no_root h))
 
     by : (k : Bool) → closes_at_once slash (e ∷ path) ≡ k
-        → Leads in_body path (cond k (went (start e.name e.foreign attributes ∷ end e.name e.foreign ∷ []) (record (in_body_on st old) { path = path })) (went (start e.name e.foreign attributes ∷ []) (record (in_body_on st old) { path = e ∷ path; drops_line_feed = drops_behind (e ∷ path) })))
+        → Leads in_body path (cond k (went (start e.name e.foreign attributes ∷ end e.name e.foreign ∷ []) (record (in_body_on st old) { path = path })) (went (start e.name e.foreign attributes ∷ []) (record (in_body_on st old) { path = e ∷ path; drops_line_feed = drops_after (e ∷ path) })))
     by true h = (record { shape = o.on_path; inner_comments = c.0; last_comments = c.1; keeps = λ x. refl }, closed)
     by false h = (record { shape = inner e path o.no_root o.outside o.on_path; inner_comments = c.0; last_comments = c.1; keeps = raw_keeps (e ∷ path) }, λ w x. (allowed w (λ v. absurd (no_void h v)), x))
 
 -- ---- What closes
 
-body_keeps_open : (k : List ℕ) → yields body k ≡ false
-unfolding yields yield_rows is_among
+body_keeps_open : (k : List ℕ) → is_closed_by_start body k ≡ false
+unfolding is_closed_by_start yield_rows is_among
 body_keeps_open k = refl
 
 -- closing a prefix of the path
-pub front_leads : (q : Element → Bool) (path : List Element) → BodyPath path → q (html_element body) ≡ false → OpensTo path (map end_event (front q path)) (behind q path)
+pub front_leads : (q : Element → Bool) (path : List Element) → BodyPath path → q (html_element body) ≡ false → OpensTo path (map end_event (front q path)) (rest_after q path)
 front_leads q path at_body b w h = by (q (html_element body)) b h
   where
-    by : (c : Bool) → c ≡ false → SettledBody (cond c (behind q (html_element html ∷ [])) under_body) w → SettledBody under_body (pushes (map end_event (cond c (html_element body ∷ front q (html_element html ∷ [])) [])) w)
+    by : (c : Bool) → c ≡ false → SettledBody (cond c (rest_after q (html_element html ∷ [])) under_body) w → SettledBody under_body (pushes (map end_event (cond c (html_element body ∷ front q (html_element html ∷ [])) [])) w)
     by true k s = cc
     by false k s = s
 front_leads q path (inner e rest other out more) b w h = by (q e) (front_leads q rest more b w) h
   where
-    by : (c : Bool) → (SettledBody (behind q rest) w → SettledBody rest (pushes (map end_event (front q rest)) w)) → SettledBody (cond c (behind q rest) (e ∷ rest)) w → SettledBody (e ∷ rest) (pushes (map end_event (cond c (e ∷ front q rest) [])) w)
+    by : (c : Bool) → (SettledBody (rest_after q rest) w → SettledBody rest (pushes (map end_event (front q rest)) w)) → SettledBody (cond c (rest_after q rest) (e ∷ rest)) w → SettledBody (e ∷ rest) (pushes (map end_event (cond c (e ∷ front q rest) [])) w)
     by true more' s = (refl, rw other (more' s))
     by false more' s = s
 
-pub front_path : (q : Element → Bool) (path : List Element) → BodyPath path → q (html_element body) ≡ false → BodyPath (behind q path)
+pub front_path : (q : Element → Bool) (path : List Element) → BodyPath path → q (html_element body) ≡ false → BodyPath (rest_after q path)
 front_path q path at_body b = rw b at_body
 front_path q path (inner e rest other out more) b = by (q e) (front_path q rest more b)
   where
-    by : (c : Bool) → BodyPath (behind q rest) → BodyPath (cond c (behind q rest) (e ∷ rest))
+    by : (c : Bool) → BodyPath (rest_after q rest) → BodyPath (cond c (rest_after q rest) (e ∷ rest))
     by true k = k
     by false k = inner e rest other out more
 
 -- in an element of HTML what is left is of HTML
-pub behind_html : (q : Element → Bool) (path : List Element) → BodyPath path → q (html_element body) ≡ false → is_in_svg path ≡ false → is_in_svg (behind q path) ≡ false
-behind_html q path at_body b h = rw b refl
-behind_html q path (inner e rest other out more) b h = by (q e) (behind_html q rest more b (out h))
+pub rest_in_html : (q : Element → Bool) (path : List Element) → BodyPath path → q (html_element body) ≡ false → is_in_svg path ≡ false → is_in_svg (rest_after q path) ≡ false
+rest_in_html q path at_body b h = rw b refl
+rest_in_html q path (inner e rest other out more) b h = by (q e) (rest_in_html q rest more b (out h))
   where
-    by : (c : Bool) → is_in_svg (behind q rest) ≡ false → is_in_svg (cond c (behind q rest) (e ∷ rest)) ≡ false
+    by : (c : Bool) → is_in_svg (rest_after q rest) ≡ false → is_in_svg (cond c (rest_after q rest) (e ∷ rest)) ≡ false
     by true k = k
     by false k = h
 
 -- what is left open doesn't yield
-pub behind_kept : (n : List ℕ) (path : List Element) → head_yields (behind (yields_to n) path) n ≡ false
-behind_kept n [] = refl
-behind_kept n (e ∷ path) = by (yields e.name n) refl (behind_kept n path)
+pub after_kept : (n : List ℕ) (path : List Element) → head_yields (rest_after (is_closed_by_start_of n) path) n ≡ false
+after_kept n [] = refl
+after_kept n (e ∷ path) = by (is_closed_by_start e.name n) refl (after_kept n path)
   where
-    by : (c : Bool) → yields e.name n ≡ c → head_yields (behind (yields_to n) path) n ≡ false → head_yields (cond c (behind (yields_to n) path) (e ∷ path)) n ≡ false
+    by : (c : Bool) → is_closed_by_start e.name n ≡ c → head_yields (rest_after (is_closed_by_start_of n) path) n ≡ false → head_yields (cond c (rest_after (is_closed_by_start_of n) path) (e ∷ path)) n ≡ false
     by true k more = more
     by false k more = k
 
@@ -155,9 +155,9 @@ opens_leads n attributes slash st old path left closed t rest c form allowed kno
     puts shallow w h =
         rw (pushes_append (map end_event closed) (starts (map html_element (made_under t n))) w) (closes (pushes (starts (map html_element (made_under t n))) w) (made_leads t n (made_under t n) rest (made_cases t n) shallow w h))
 
-    whole : is_deep on ≡ false → stands_on n on ≡ true → is_deep (e ∷ on) ≡ false → Leads in_body path (behind_events (map end_event closed ++ starts (map html_element (made_under t n))) (entered attributes slash (in_body_on st old) (e ∷ on)))
+    whole : is_deep on ≡ false → stands_on n on ≡ true → is_deep (e ∷ on) ≡ false → Leads in_body path (stepped_after_events (map end_event closed ++ starts (map html_element (made_under t n))) (entered attributes slash (in_body_on st old) (e ∷ on)))
     whole shallow stands shallow' =
-        behind_leads in_body in_body path on (map end_event closed ++ starts (map html_element (made_under t n))) (entered attributes slash (in_body_on st old) (e ∷ on)) (puts shallow)
+        after_leads in_body in_body path on (map end_event closed ++ starts (map html_element (made_under t n))) (entered attributes slash (in_body_on st old) (e ∷ on)) (puts shallow)
         (entered_leads attributes slash st old e on c (record { no_root = no_root_is_html n (bytes_eq n svg) no_root; outside = λ h. out.outside; on_path = made_path t n (made_under t n) rest (made_cases t n) on_path }) (λ w v. html_allowed n attributes on w form allowed known out stands shallow' v))
 
     by_last : (b : Bool) → is_deep (e ∷ on) ≡ b → is_deep on ≡ false → stands_on n on ≡ true → Leads in_body path (after_moves attributes slash (in_body_on st old) (cond b (refuses TooDeep) (moves closed (map html_element (made_under t n)) (e ∷ on))))
@@ -202,12 +202,12 @@ html_start_leads : (n : List ℕ) (attributes : List Attribute) (slash : Bool) (
     → Leads in_body path (after_moves attributes slash (in_body_on st path) (html_start_moves n path))
 html_start_leads n attributes slash st path c form allowed on_path outside = by (is_refused n) (is_root n) refl refl
   where
-    by : (b d : Bool) → is_refused n ≡ b → is_root n ≡ d → Leads in_body path (after_moves attributes slash (in_body_on st path) (cond b (refuses RefusedName) (cond d (refuses SecondRoot) (start_on n (front (yields_to n) path) (behind (yields_to n) path)))))
+    by : (b d : Bool) → is_refused n ≡ b → is_root n ≡ d → Leads in_body path (after_moves attributes slash (in_body_on st path) (cond b (refuses RefusedName) (cond d (refuses SecondRoot) (start_on n (front (is_closed_by_start_of n) path) (rest_after (is_closed_by_start_of n) path)))))
     by true d known no_root = tt
     by false true known no_root = tt
     by false false known no_root =
-        start_on_leads n attributes slash st path path (front (yields_to n) path) (behind (yields_to n) path) c form allowed known no_root
-        (front_leads (yields_to n) path on_path (body_keeps_open n)) (front_path (yields_to n) path on_path (body_keeps_open n)) (behind_html (yields_to n) path on_path (body_keeps_open n) outside) (behind_kept n path)
+        start_on_leads n attributes slash st path path (front (is_closed_by_start_of n) path) (rest_after (is_closed_by_start_of n) path) c form allowed known no_root
+        (front_leads (is_closed_by_start_of n) path on_path (body_keeps_open n)) (front_path (is_closed_by_start_of n) path on_path (body_keeps_open n)) (rest_in_html (is_closed_by_start_of n) path on_path (body_keeps_open n) outside) (after_kept n path)
 
 -- ---- An element of SVG
 
@@ -218,9 +218,9 @@ svg_start_leads : (n : List ℕ) (attributes : List Attribute) (slash : Bool) (s
     → Leads in_body path (after_moves attributes slash (in_body_on st path) (svg_start_moves n path))
 svg_start_leads n attributes slash st path c allowed on_path inside = by_name (is_svg_name n) refl
   where
-    whole : is_svg_name n ≡ true → holds_svg_text (current path) ≡ false → is_deep (element n true ∷ path) ≡ false → Leads in_body path (behind_events [] (entered attributes slash (in_body_on st path) (element n true ∷ path)))
+    whole : is_svg_name n ≡ true → holds_svg_text (current path) ≡ false → is_deep (element n true ∷ path) ≡ false → Leads in_body path (stepped_after_events [] (entered attributes slash (in_body_on st path) (element n true ∷ path)))
     whole known parent shallow =
-        behind_leads in_body in_body path path [] (entered attributes slash (in_body_on st path) (element n true ∷ path)) (λ w h. h)
+        after_leads in_body in_body path path [] (entered attributes slash (in_body_on st path) (element n true ∷ path)) (λ w h. h)
         (entered_leads attributes slash st path (element n true) path c (record { no_root = refl; outside = λ h. cc; on_path = on_path }) (λ w v. svg_allowed n attributes path w allowed inside known parent shallow))
 
     by_deep : (b : Bool) → is_deep (element n true ∷ path) ≡ b → is_svg_name n ≡ true → holds_svg_text (current path) ≡ false → Leads in_body path (after_moves attributes slash (in_body_on st path) (cond b (refuses TooDeep) (moves [] [] (element n true ∷ path))))

@@ -168,44 +168,44 @@ at_end_is (e ∷ f ∷ g ∷ []) h =
 at_end_is (e ∷ f ∷ g ∷ k ∷ path) h = cc
 
 -- an insertion mode after body
-abbrev pub is_behind : InsertionMode → Bool
-is_behind after_body = true
-is_behind after_html = true
-is_behind insertion_mode = false
+abbrev pub is_past_body : InsertionMode → Bool
+is_past_body after_body = true
+is_past_body after_html = true
+is_past_body insertion_mode = false
 
 end_no_raw : (path : List Element) → AtEnd path → is_in_raw path ≡ false
 unfolding is_raw raw_names is_among
 end_no_raw path (inl e) = rw e refl
 end_no_raw path (inr e) = rw e refl
 
-behind_good : (insertion_mode : InsertionMode) (st : Construction) (path : List Element) → is_behind insertion_mode ≡ true → CommentsGood st → AtEnd path → Good (record (moved st in_body path) { insertion_mode = insertion_mode })
-behind_good initial st path b c e = cc
-behind_good before_html st path b c e = cc
-behind_good before_head st path b c e = cc
-behind_good in_head st path b c e = cc
-behind_good after_head st path b c e = cc
-behind_good in_body st path b c e = cc
-behind_good after_body st path b c e = record { shape = e; inner_comments = c.0; last_comments = c.1; keeps = λ h. absurd (both_ways (is_in_raw path) (end_no_raw path e) h) }
-behind_good after_html st path b c e = record { shape = e; inner_comments = c.0; last_comments = c.1; keeps = λ h. absurd (both_ways (is_in_raw path) (end_no_raw path e) h) }
+after_good : (insertion_mode : InsertionMode) (st : Construction) (path : List Element) → is_past_body insertion_mode ≡ true → CommentsGood st → AtEnd path → Good (record (moved st in_body path) { insertion_mode = insertion_mode })
+after_good initial st path b c e = cc
+after_good before_html st path b c e = cc
+after_good before_head st path b c e = cc
+after_good in_head st path b c e = cc
+after_good after_head st path b c e = cc
+after_good in_body st path b c e = cc
+after_good after_body st path b c e = record { shape = e; inner_comments = c.0; last_comments = c.1; keeps = λ h. absurd (both_ways (is_in_raw path) (end_no_raw path e) h) }
+after_good after_html st path b c e = record { shape = e; inner_comments = c.0; last_comments = c.1; keeps = λ h. absurd (both_ways (is_in_raw path) (end_no_raw path e) h) }
 
-behind_settled : (insertion_mode : InsertionMode) (path : List Element) (w : List Event) → is_behind insertion_mode ≡ true → SettledAt insertion_mode path w → SettledAt in_body path w
-behind_settled initial path w b h = cc
-behind_settled before_html path w b h = cc
-behind_settled before_head path w b h = cc
-behind_settled in_head path w b h = cc
-behind_settled after_head path w b h = cc
-behind_settled in_body path w b h = cc
-behind_settled after_body path w b h = h
-behind_settled after_html path w b h = h
+after_settled : (insertion_mode : InsertionMode) (path : List Element) (w : List Event) → is_past_body insertion_mode ≡ true → SettledAt insertion_mode path w → SettledAt in_body path w
+after_settled initial path w b h = cc
+after_settled before_html path w b h = cc
+after_settled before_head path w b h = cc
+after_settled in_head path w b h = cc
+after_settled after_head path w b h = cc
+after_settled in_body path w b h = cc
+after_settled after_body path w b h = h
+after_settled after_html path w b h = h
 
-pub leaves : (insertion_mode : InsertionMode) (st : Construction) (path : List Element) → is_behind insertion_mode ≡ true → CommentsGood st → Leads in_body path (leave_body insertion_mode (moved st in_body path))
+pub leaves : (insertion_mode : InsertionMode) (st : Construction) (path : List Element) → is_past_body insertion_mode ≡ true → CommentsGood st → Leads in_body path (leave_body insertion_mode (moved st in_body path))
 leaves insertion_mode st path b c = by (is_at_end path) refl
   where
     by : (k : Bool) → is_at_end path ≡ k → Leads in_body path (cond k (went [] (record (moved st in_body path) { insertion_mode = insertion_mode })) (stops Unclosed 0))
-    by true h = (behind_good insertion_mode st path b c (at_end_is path h), λ w s. behind_settled insertion_mode path w b s)
+    by true h = (after_good insertion_mode st path b c (at_end_is path h), λ w s. after_settled insertion_mode path w b s)
     by false h = tt
 
-pub reaches : (insertion_mode : InsertionMode) (next : InsertionMode) (st : Construction) (path : List Element) → is_behind next ≡ true → CommentsGood st → Shape insertion_mode path → is_in_text path ≡ false → is_in_noscript insertion_mode path ≡ false → Leads insertion_mode path (reach_body insertion_mode (leave_body next) (moved st insertion_mode path))
+pub reaches : (insertion_mode : InsertionMode) (next : InsertionMode) (st : Construction) (path : List Element) → is_past_body next ≡ true → CommentsGood st → Shape insertion_mode path → is_in_text path ≡ false → is_in_noscript insertion_mode path ≡ false → Leads insertion_mode path (reach_body insertion_mode (leave_body next) (moved st insertion_mode path))
 reaches insertion_mode next st path b c s t n =
     reach_body_leads insertion_mode path (moved st insertion_mode path) (leave_body next) s t n (leaves next st under_body b c)
     (λ e. let P : InsertionMode → Type 0 = λ q. Leads in_body path (leave_body next (moved st q path)) in subst P (sym e) (leaves next st path b c))
@@ -282,8 +282,8 @@ comments_lead before_head s st path c shape t a = (good_on st before_head path p
 comments_lead in_head s st path c shape t a = (good_on st in_head path path c shape, λ w h. (allowed_on path s t a, h))
 comments_lead after_head s st path c shape t a = (good_on st after_head path path c shape, λ w h. (allowed_on under_html s frame_text.1.0 a, h))
 comments_lead in_body s st path c shape t a = (good_on st in_body path path c shape, λ w h. (allowed_on path s t a, h))
-comments_lead after_body s st path c shape t a = (record { shape = shape; inner_comments = comments_append st.behind_body s c.0 a; last_comments = c.1; keeps = λ h. refl }, λ w h. h)
-comments_lead after_html s st path c shape t a = (record { shape = shape; inner_comments = c.0; last_comments = comments_append st.behind_html s c.1 a; keeps = λ h. refl }, λ w h. h)
+comments_lead after_body s st path c shape t a = (record { shape = shape; inner_comments = comments_append st.comments_after_body s c.0 a; last_comments = c.1; keeps = λ h. refl }, λ w h. h)
+comments_lead after_html s st path c shape t a = (record { shape = shape; inner_comments = c.0; last_comments = comments_append st.comments_after_html s c.1 a; keeps = λ h. refl }, λ w h. h)
 
 pub doctypes_lead : (insertion_mode : InsertionMode) (legacy : Bool) (st : Construction) (path : List Element) → CommentsGood st → Shape insertion_mode path → Leads insertion_mode path (step_doctype insertion_mode legacy (before_tag st insertion_mode path))
 doctypes_lead initial legacy st path c s = (record { shape = s; inner_comments = c.0; last_comments = c.1; keeps = λ h. refl }, λ w h. h)

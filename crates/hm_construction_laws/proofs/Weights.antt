@@ -8,12 +8,12 @@ use Rattle.hm_base.specs.declared.rules.Rule.TheVariants.{RefusedName, SecondRoo
 use Rattle.hm_elements.specs.Names.{html, head, body, svg, is_among, tr, tbody, colgroup, table, col, words}
 use Rattle.hm_elements.specs.Nesting.{made_under, noscript_children}
 use Rattle.hm_elements.specs.Tables.{is_metadata, is_section, is_svg_name, holds_svg_text, is_refused, is_root}
-use Rattle.hm_elements.specs.Paths.{html_element, current, is_in_svg, front, behind, yields_to, falls_to, made_on, stands_on, is_open, is_in_text, is_in_blank, is_block_in_p, is_nested, is_deep}
-use Rattle.hm_settle.specs.Moves.{Moves, moves, refuses, element, start_moves, end_moves, start_on, opens_in_place, opens, end_on, ends_nothing}
+use Rattle.hm_elements.specs.Paths.{html_element, current, is_in_svg, front, rest_after, is_closed_by_start_of, is_closed_by_end_of, made_on, stands_on, is_open, is_in_text, is_in_blank, is_block_in_p, is_nested, is_deep}
+use Rattle.hm_open_elements.specs.Moves.{Moves, moves, refuses, element, start_moves, end_moves, start_on, opens_in_place, opens, end_on, ends_nothing}
 use Rattle.hm_tree.specs.Tokens.{Seen}
 use Rattle.hm_tree.specs.Tokens as tokens
 use Rattle.hm_construction_laws.specs.Weights.{weight, left, left_size, texts_size, load, load_size, cost, size_cost, span, Within, WithinAll}
-use Rattle.hm_construction_laws.specs.Steps.{InsertionMode, initial, before_html, before_head, in_head, after_head, in_body, after_body, after_html, Construction, Stepped, went, stops, behind_events, moved, no_drop, under_html, under_head, under_body, make_html, make_head, close_head, make_body, reach_head, reach_body, is_in_noscript, keep_byte, space_byte, body_byte, other_byte, kept_byte, step_byte, behind_bytes, then_step, step_bytes, at_front, drops_behind, closes_at_once, entered, end_event, start_event, starts, after_moves, start_in_body, opened, open_html, open_head_here, open_head, open_body_here, open_body, start_after_head, start_in_head, start_inside, html_start, is_outside, outside_rule, step_start, after_end_moves, end_current, end_head, is_at_end, leave_body, end_body, end_html, end_inside, html_end, end_outside, step_end, step_comment, step_doctype, step, closing, leave_page, step_over}
+use Rattle.hm_construction_laws.specs.Steps.{InsertionMode, initial, before_html, before_head, in_head, after_head, in_body, after_body, after_html, Construction, Stepped, went, stops, stepped_after_events, moved, no_drop, under_html, under_head, under_body, make_html, make_head, close_head, make_body, reach_head, reach_body, is_in_noscript, keep_byte, space_byte, body_byte, other_byte, kept_byte, step_byte, after_bytes, then_step, step_bytes, at_front, drops_after, closes_at_once, entered, end_event, start_event, starts, after_moves, start_in_body, opened, open_html, open_head_here, open_head, open_body_here, open_body, start_after_head, start_in_head, start_inside, html_start, is_outside, outside_rule, step_start, after_end_moves, end_current, end_head, is_at_end, leave_body, end_body, end_html, end_inside, html_end, end_outside, step_end, step_comment, step_doctype, step, closing, leave_page, step_over}
 
 pub weight-append : (es fs : List Event) → weight (es ++ fs) ≡ weight es + weight fs
 weight-append [] fs = omega arith
@@ -27,39 +27,39 @@ pub within_more : (a b m a' b' m' : ℕ) (s : Stepped) → a ≤ a' → b ≤ b'
 within_more a b m a' b' m' (went es st) h k l w = (let x : weight es + load st ≤ a = w.0 in omega arith, let y : walk_size es + load_size st ≤ b = w.1 in omega arith)
 within_more a b m a' b' m' (stops rule n) h k l w = omega arith
 
-pub within_behind : (a b m : ℕ) (es : List Event) (s : Stepped) → Within a b m s → Within (weight es + a) (walk_size es + b) m (behind_events es s)
-within_behind a b m es (went fs st) w =
+pub within_after : (a b m : ℕ) (es : List Event) (s : Stepped) → Within a b m s → Within (weight es + a) (walk_size es + b) m (stepped_after_events es s)
+within_after a b m es (went fs st) w =
     let x : weight (es ++ fs) ≡ weight es + weight fs = weight-append es fs in
     let y : walk_size (es ++ fs) ≡ walk_size es + walk_size fs = walk_size-append es fs in
     let p : weight fs + load st ≤ a = w.0 in
     let q : walk_size fs + load_size st ≤ b = w.1 in
     (omega arith, omega arith)
-within_behind a b m es (stops rule n) w = w
+within_after a b m es (stops rule n) w = w
 
 -- ---- one element is made or closed
 
 pub html_within : (c d m : ℕ) (more : Construction → Stepped) (st : Construction) → ((s : Construction) → s.insertion_mode ≡ before_head → Within (load s + c) (load_size s + d) m (more s)) → st.insertion_mode ≡ before_html → Within (load st + c) (load_size st + d) m (make_html more st)
 html_within c d m more st h e =
     let next : Construction = moved st before_head under_html in
-    let w : Within (2 + (load next + c)) (4 + (load_size next + d)) m (make_html more st) = within_behind (load next + c) (load_size next + d) m (start html false [] ∷ []) (more next) (h next refl) in
+    let w : Within (2 + (load next + c)) (4 + (load_size next + d)) m (make_html more st) = within_after (load next + c) (load_size next + d) m (start html false [] ∷ []) (more next) (h next refl) in
     within_more (2 + (load next + c)) (4 + (load_size next + d)) m (load st + c) (load_size st + d) m (make_html more st) (rw e (omega arith)) (rw e (omega arith)) (omega arith) w
 
 pub head_within : (c d m : ℕ) (more : Construction → Stepped) (st : Construction) → ((s : Construction) → s.insertion_mode ≡ in_head → Within (load s + c) (load_size s + d) m (more s)) → st.insertion_mode ≡ before_head → Within (load st + c) (load_size st + d) m (make_head more st)
 head_within c d m more st h e =
     let next : Construction = moved st in_head under_head in
-    let w : Within (2 + (load next + c)) (4 + (load_size next + d)) m (make_head more st) = within_behind (load next + c) (load_size next + d) m (start head false [] ∷ []) (more next) (h next refl) in
+    let w : Within (2 + (load next + c)) (4 + (load_size next + d)) m (make_head more st) = within_after (load next + c) (load_size next + d) m (start head false [] ∷ []) (more next) (h next refl) in
     within_more (2 + (load next + c)) (4 + (load_size next + d)) m (load st + c) (load_size st + d) m (make_head more st) (rw e (omega arith)) (rw e (omega arith)) (omega arith) w
 
 pub close_within : (c d m : ℕ) (more : Construction → Stepped) (st : Construction) → ((s : Construction) → s.insertion_mode ≡ after_head → Within (load s + c) (load_size s + d) m (more s)) → st.insertion_mode ≡ in_head → Within (load st + c) (load_size st + d) m (close_head more st)
 close_within c d m more st h e =
     let next : Construction = moved st after_head under_html in
-    let w : Within (1 + (load next + c)) (0 + (load_size next + d)) m (close_head more st) = within_behind (load next + c) (load_size next + d) m (end head false ∷ []) (more next) (h next refl) in
+    let w : Within (1 + (load next + c)) (0 + (load_size next + d)) m (close_head more st) = within_after (load next + c) (load_size next + d) m (end head false ∷ []) (more next) (h next refl) in
     within_more (1 + (load next + c)) (0 + (load_size next + d)) m (load st + c) (load_size st + d) m (close_head more st) (rw e (omega arith)) (rw e (omega arith)) (omega arith) w
 
 pub body_within : (c d m : ℕ) (more : Construction → Stepped) (st : Construction) → ((s : Construction) → s.insertion_mode ≡ in_body → Within (load s + c) (load_size s + d) m (more s)) → st.insertion_mode ≡ after_head → Within (load st + c) (load_size st + d) m (make_body more st)
 body_within c d m more st h e =
     let next : Construction = moved st in_body under_body in
-    let w : Within (2 + (load next + c)) (4 + (load_size next + d)) m (make_body more st) = within_behind (load next + c) (load_size next + d) m (start body false [] ∷ []) (more next) (h next refl) in
+    let w : Within (2 + (load next + c)) (4 + (load_size next + d)) m (make_body more st) = within_after (load next + c) (load_size next + d) m (start body false [] ∷ []) (more next) (h next refl) in
     within_more (2 + (load next + c)) (4 + (load_size next + d)) m (load st + c) (load_size st + d) m (make_body more st) (rw e (omega arith)) (rw e (omega arith)) (omega arith) w
 
 -- in the body the state's insertion mode is that of the body, wherever the step began
@@ -136,11 +136,11 @@ WithinText a b n (went es st) = (weight es + load st ≤ a) × (walk_size es + l
 WithinText a b n (stops rule k) = k < n
 
 then_within : (c : ℕ) (s : List ℕ) (st : Construction) (x : Stepped) → Within (load st + 1) (load_size st + 1) 0 x → ((next : Construction) → WithinText (load next + length s) (load_size next + length s) (length s) (step_bytes s next))
-    → WithinText (load st + suc (length s)) (load_size st + suc (length s)) (suc (length s)) (then_step x (λ next. behind_bytes 1 (step_bytes s next)))
+    → WithinText (load st + suc (length s)) (load_size st + suc (length s)) (suc (length s)) (then_step x (λ next. after_bytes 1 (step_bytes s next)))
 then_within c s st (stops rule n) w h = omega arith
 then_within c s st (went es next) w h = by (step_bytes s next) (h next)
   where
-    by : (y : Stepped) → WithinText (load next + length s) (load_size next + length s) (length s) y → WithinText (load st + suc (length s)) (load_size st + suc (length s)) (suc (length s)) (behind_events es (behind_bytes 1 y))
+    by : (y : Stepped) → WithinText (load next + length s) (load_size next + length s) (length s) y → WithinText (load st + suc (length s)) (load_size st + suc (length s)) (suc (length s)) (stepped_after_events es (after_bytes 1 y))
     by (stops rule n) v = omega arith
     by (went fs last) v =
         let x : weight (es ++ fs) ≡ weight es + weight fs = weight-append es fs in
@@ -180,10 +180,10 @@ starts_weight (e ∷ path) =
     (omega arith, omega arith)
 
 pub entered_within : (attributes : List Attribute) (slash : Bool) (st : Construction) (e : Element) (path : List Element)
-    → Within (length path + (length st.behind_body + length st.behind_html) + left st.insertion_mode + 3) (load_size st + (length e.name + attributes_size attributes)) 0 (entered attributes slash st (e ∷ path))
+    → Within (length path + (length st.comments_after_body + length st.comments_after_html) + left st.insertion_mode + 3) (load_size st + (length e.name + attributes_size attributes)) 0 (entered attributes slash st (e ∷ path))
 entered_within attributes slash st e path = by (closes_at_once slash (e ∷ path))
   where
-    by : (b : Bool) → Within (length path + (length st.behind_body + length st.behind_html) + left st.insertion_mode + 3) (load_size st + (length e.name + attributes_size attributes)) 0 (cond b (went (start e.name e.foreign attributes ∷ end e.name e.foreign ∷ []) (record st { path = path })) (went (start e.name e.foreign attributes ∷ []) (record st { path = e ∷ path; drops_line_feed = drops_behind (e ∷ path) })))
+    by : (b : Bool) → Within (length path + (length st.comments_after_body + length st.comments_after_html) + left st.insertion_mode + 3) (load_size st + (length e.name + attributes_size attributes)) 0 (cond b (went (start e.name e.foreign attributes ∷ end e.name e.foreign ∷ []) (record st { path = path })) (went (start e.name e.foreign attributes ∷ []) (record st { path = e ∷ path; drops_line_feed = drops_after (e ∷ path) })))
     by true = (omega arith, omega arith)
     by false = (omega arith, omega arith)
 
@@ -201,9 +201,9 @@ after_within n attributes slash st (moves closed made (e ∷ path)) w =
     let d : (weight (starts made) ≡ 2 * length made) × (walk_size (starts made) ≡ names_size made) = starts_weight made in
     let x : weight (map end_event closed ++ starts made) ≡ weight (map end_event closed) + weight (starts made) = weight-append (map end_event closed) (starts made) in
     let y : walk_size (map end_event closed ++ starts made) ≡ walk_size (map end_event closed) + walk_size (starts made) = walk_size-append (map end_event closed) (starts made) in
-    let a : ℕ = length path + (length st.behind_body + length st.behind_html) + left st.insertion_mode + 3 in
+    let a : ℕ = length path + (length st.comments_after_body + length st.comments_after_html) + left st.insertion_mode + 3 in
     let b : ℕ = load_size st + (length e.name + attributes_size attributes) in
-    let v : Within (weight (map end_event closed ++ starts made) + a) (walk_size (map end_event closed ++ starts made) + b) 0 (after_moves attributes slash st (moves closed made (e ∷ path))) = within_behind a b 0 (map end_event closed ++ starts made) (entered attributes slash st (e ∷ path)) (entered_within attributes slash st e path) in
+    let v : Within (weight (map end_event closed ++ starts made) + a) (walk_size (map end_event closed ++ starts made) + b) 0 (after_moves attributes slash st (moves closed made (e ∷ path))) = within_after a b 0 (map end_event closed ++ starts made) (entered attributes slash st (e ∷ path)) (entered_within attributes slash st e path) in
     let few : length closed + length path ≤ length st.path + length made = w.0 in
     let two : length made ≤ 2 = w.1 in
     let small : names_size made ≤ 8 = w.2 in
@@ -214,11 +214,11 @@ after_within n attributes slash st (moves closed made (e ∷ path)) w =
     let ds : walk_size (starts made) ≡ names_size made = d.1 in
     within_more (weight (map end_event closed ++ starts made) + a) (walk_size (map end_event closed ++ starts made) + b) 0 (load st + 9) (load_size st + (length n + attributes_size attributes + 8)) 0 (after_moves attributes slash st (moves closed made (e ∷ path))) (omega arith) (omega arith) (omega arith) v
 
-front_and_behind : (q : Element → Bool) (path : List Element) → length (front q path) + length (behind q path) ≡ length path
-front_and_behind q [] = omega arith
-front_and_behind q (e ∷ path) = by (q e) (front_and_behind q path)
+front_and_rest : (q : Element → Bool) (path : List Element) → length (front q path) + length (rest_after q path) ≡ length path
+front_and_rest q [] = omega arith
+front_and_rest q (e ∷ path) = by (q e) (front_and_rest q path)
   where
-    by : (b : Bool) → length (front q path) + length (behind q path) ≡ length path → length (cond b (e ∷ front q path) []) + length (cond b (behind q path) (e ∷ path)) ≡ suc (length path)
+    by : (b : Bool) → length (front q path) + length (rest_after q path) ≡ length path → length (cond b (e ∷ front q path) []) + length (cond b (rest_after q path) (e ∷ path)) ≡ suc (length path)
     by true h = omega arith
     by false h = omega arith
 
@@ -273,13 +273,13 @@ pub start_moves_within : (n : List ℕ) (path : List Element) → MovesWithin n 
 unfolding start_moves
 start_moves_within n path = by (is_in_svg path) (not (is_svg_name n)) (holds_svg_text (current path)) (is_refused n) (is_root n)
   where
-    by : (a b c d e : Bool) → MovesWithin n (length path) (cond a (cond b (refuses ForeignName) (cond c (refuses WrongParent) (opens (element n true) [] [] path))) (cond d (refuses RefusedName) (cond e (refuses SecondRoot) (start_on n (front (yields_to n) path) (behind (yields_to n) path)))))
+    by : (a b c d e : Bool) → MovesWithin n (length path) (cond a (cond b (refuses ForeignName) (cond c (refuses WrongParent) (opens (element n true) [] [] path))) (cond d (refuses RefusedName) (cond e (refuses SecondRoot) (start_on n (front (is_closed_by_start_of n) path) (rest_after (is_closed_by_start_of n) path)))))
     by true true c d e = tt
     by true false true d e = tt
     by true false false d e = opens_within n (length path) (element n true) [] [] path (omega arith) (omega arith) (omega arith) refl
     by false b c true e = tt
     by false b c false true = tt
-    by false b c false false = start_on_within n (length path) (front (yields_to n) path) (behind (yields_to n) path) (front_and_behind (yields_to n) path)
+    by false b c false false = start_on_within n (length path) (front (is_closed_by_start_of n) path) (rest_after (is_closed_by_start_of n) path) (front_and_rest (is_closed_by_start_of n) path)
 
 -- ---- start tags
 
@@ -292,7 +292,7 @@ in_body_within n attributes slash st = after_within n attributes slash st (start
 
 opened_within : (n : List ℕ) (attributes : List Attribute) (st : Construction) → StartWithin n attributes st (opened n attributes st)
 opened_within n attributes st =
-    within_more (length st.path + (length st.behind_body + length st.behind_html) + left st.insertion_mode + 3) (load_size st + (length n + attributes_size attributes)) 0 (load st + 9) (load_size st + (length n + attributes_size attributes + 8)) 0 (opened n attributes st) (omega arith) (omega arith) (omega arith)
+    within_more (length st.path + (length st.comments_after_body + length st.comments_after_html) + left st.insertion_mode + 3) (load_size st + (length n + attributes_size attributes)) 0 (load st + 9) (load_size st + (length n + attributes_size attributes + 8)) 0 (opened n attributes st) (omega arith) (omega arith) (omega arith)
     (entered_within attributes false st (html_element n) st.path)
 
 after_head_within : (n : List ℕ) (attributes : List Attribute) (slash : Bool) (st : Construction) → st.insertion_mode ≡ after_head → StartWithin n attributes st (start_after_head n attributes slash st)
@@ -347,18 +347,18 @@ open_head_within n attributes after_html st e = omega arith
 body_here_within : (n : List ℕ) (attributes : List Attribute) (st : Construction) → st.insertion_mode ≡ after_head → StartWithin n attributes st (open_body_here attributes st)
 body_here_within n attributes st e = rw e (omega arith, omega arith)
 
-body_behind_head : (n : List ℕ) (attributes : List Attribute) (st : Construction) → st.insertion_mode ≡ in_head → StartWithin n attributes st (close_head (open_body_here attributes) st)
-body_behind_head n attributes st e = close_within 9 (length n + attributes_size attributes + 8) 0 (open_body_here attributes) st (λ s h. body_here_within n attributes s h) e
+body_after_head : (n : List ℕ) (attributes : List Attribute) (st : Construction) → st.insertion_mode ≡ in_head → StartWithin n attributes st (close_head (open_body_here attributes) st)
+body_after_head n attributes st e = close_within 9 (length n + attributes_size attributes + 8) 0 (open_body_here attributes) st (λ s h. body_here_within n attributes s h) e
 
 open_body_within : (n : List ℕ) (attributes : List Attribute) (p : InsertionMode) (st : Construction) → st.insertion_mode ≡ p → StartWithin n attributes st (open_body p attributes st)
 open_body_within n attributes initial st e = omega arith
-open_body_within n attributes before_html st e = html_within 9 (length n + attributes_size attributes + 8) 0 (make_head (close_head (open_body_here attributes))) st (λ s a. head_within 9 (length n + attributes_size attributes + 8) 0 (close_head (open_body_here attributes)) s (λ t b. body_behind_head n attributes t b) a) e
-open_body_within n attributes before_head st e = head_within 9 (length n + attributes_size attributes + 8) 0 (close_head (open_body_here attributes)) st (λ t b. body_behind_head n attributes t b) e
+open_body_within n attributes before_html st e = html_within 9 (length n + attributes_size attributes + 8) 0 (make_head (close_head (open_body_here attributes))) st (λ s a. head_within 9 (length n + attributes_size attributes + 8) 0 (close_head (open_body_here attributes)) s (λ t b. body_after_head n attributes t b) a) e
+open_body_within n attributes before_head st e = head_within 9 (length n + attributes_size attributes + 8) 0 (close_head (open_body_here attributes)) st (λ t b. body_after_head n attributes t b) e
 open_body_within n attributes in_head st e = by (is_in_noscript in_head st.path)
   where
     by : (b : Bool) → StartWithin n attributes st (cond b (stops SecondRoot 0) (close_head (open_body_here attributes) st))
     by true = omega arith
-    by false = body_behind_head n attributes st e
+    by false = body_after_head n attributes st e
 open_body_within n attributes after_head st e = body_here_within n attributes st e
 open_body_within n attributes in_body st e = omega arith
 open_body_within n attributes after_body st e = omega arith
@@ -421,9 +421,9 @@ end_moves_within : (n : List ℕ) (path : List Element) → ClosesWithin (length
 unfolding end_moves
 end_moves_within n path = by (is_in_svg path)
   where
-    by : (b : Bool) → ClosesWithin (length path) (cond b (end_on n [] path (is_open n path)) (end_on n (front (falls_to n) path) (behind (falls_to n) path) (is_open n path)))
+    by : (b : Bool) → ClosesWithin (length path) (cond b (end_on n [] path (is_open n path)) (end_on n (front (is_closed_by_end_of n) path) (rest_after (is_closed_by_end_of n) path) (is_open n path)))
     by true = end_on_within n (length path) [] path (is_open n path) (omega arith)
-    by false = end_on_within n (length path) (front (falls_to n) path) (behind (falls_to n) path) (is_open n path) (front_and_behind (falls_to n) path)
+    by false = end_on_within n (length path) (front (is_closed_by_end_of n) path) (rest_after (is_closed_by_end_of n) path) (is_open n path) (front_and_rest (is_closed_by_end_of n) path)
 
 after_end_within : (st : Construction) (m : Moves) → ClosesWithin (length st.path) m → EndWithin st (after_end_moves st m)
 after_end_within st (refuses rule) w = omega arith
@@ -517,12 +517,12 @@ texts_size-append (s ∷ ss) ts = let h : texts_size (ss ++ ts) ≡ texts_size s
 
 comment_within : (s : List ℕ) (p : InsertionMode) (st : Construction) → Within (load st + 1) (load_size st + length s) 0 (step_comment p s st)
 comment_within s after_body st =
-    let a : length (st.behind_body ++ s ∷ []) ≡ length st.behind_body + 1 = length-append st.behind_body (s ∷ []) in
-    let b : texts_size (st.behind_body ++ s ∷ []) ≡ texts_size st.behind_body + texts_size (s ∷ []) = texts_size-append st.behind_body (s ∷ []) in
+    let a : length (st.comments_after_body ++ s ∷ []) ≡ length st.comments_after_body + 1 = length-append st.comments_after_body (s ∷ []) in
+    let b : texts_size (st.comments_after_body ++ s ∷ []) ≡ texts_size st.comments_after_body + texts_size (s ∷ []) = texts_size-append st.comments_after_body (s ∷ []) in
     (omega arith, omega arith)
 comment_within s after_html st =
-    let a : length (st.behind_html ++ s ∷ []) ≡ length st.behind_html + 1 = length-append st.behind_html (s ∷ []) in
-    let b : texts_size (st.behind_html ++ s ∷ []) ≡ texts_size st.behind_html + texts_size (s ∷ []) = texts_size-append st.behind_html (s ∷ []) in
+    let a : length (st.comments_after_html ++ s ∷ []) ≡ length st.comments_after_html + 1 = length-append st.comments_after_html (s ∷ []) in
+    let b : texts_size (st.comments_after_html ++ s ∷ []) ≡ texts_size st.comments_after_html + texts_size (s ∷ []) = texts_size-append st.comments_after_html (s ∷ []) in
     (omega arith, omega arith)
 comment_within s initial st = (omega arith, omega arith)
 comment_within s before_html st = (omega arith, omega arith)
@@ -619,11 +619,11 @@ over_within st = by (is_in_text st.path) (leave_page st.insertion_mode st) refl 
     by true x e f w = rw e refl
     by false (stops rule n) e f w = rw (e, f) (omega arith)
     by false (went es at_end) e f w =
-        let c : (weight (closing at_end.path at_end.behind_body at_end.behind_html) ≡ length at_end.path + (length at_end.behind_body + length at_end.behind_html)) × (walk_size (closing at_end.path at_end.behind_body at_end.behind_html) ≡ texts_size at_end.behind_body + texts_size at_end.behind_html) = closing_weight at_end.path at_end.behind_body at_end.behind_html in
-        let x : weight (es ++ closing at_end.path at_end.behind_body at_end.behind_html) ≡ weight es + weight (closing at_end.path at_end.behind_body at_end.behind_html) = weight-append es (closing at_end.path at_end.behind_body at_end.behind_html) in
-        let y : walk_size (es ++ closing at_end.path at_end.behind_body at_end.behind_html) ≡ walk_size es + walk_size (closing at_end.path at_end.behind_body at_end.behind_html) = walk_size-append es (closing at_end.path at_end.behind_body at_end.behind_html) in
+        let c : (weight (closing at_end.path at_end.comments_after_body at_end.comments_after_html) ≡ length at_end.path + (length at_end.comments_after_body + length at_end.comments_after_html)) × (walk_size (closing at_end.path at_end.comments_after_body at_end.comments_after_html) ≡ texts_size at_end.comments_after_body + texts_size at_end.comments_after_html) = closing_weight at_end.path at_end.comments_after_body at_end.comments_after_html in
+        let x : weight (es ++ closing at_end.path at_end.comments_after_body at_end.comments_after_html) ≡ weight es + weight (closing at_end.path at_end.comments_after_body at_end.comments_after_html) = weight-append es (closing at_end.path at_end.comments_after_body at_end.comments_after_html) in
+        let y : walk_size (es ++ closing at_end.path at_end.comments_after_body at_end.comments_after_html) ≡ walk_size es + walk_size (closing at_end.path at_end.comments_after_body at_end.comments_after_html) = walk_size-append es (closing at_end.path at_end.comments_after_body at_end.comments_after_html) in
         let a : weight es + load at_end ≤ load st + 0 = w.0 in
         let b : walk_size es + load_size at_end ≤ load_size st + 0 = w.1 in
-        let p : weight (closing at_end.path at_end.behind_body at_end.behind_html) ≡ length at_end.path + (length at_end.behind_body + length at_end.behind_html) = c.0 in
-        let q : walk_size (closing at_end.path at_end.behind_body at_end.behind_html) ≡ texts_size at_end.behind_body + texts_size at_end.behind_html = c.1 in
+        let p : weight (closing at_end.path at_end.comments_after_body at_end.comments_after_html) ≡ length at_end.path + (length at_end.comments_after_body + length at_end.comments_after_html) = c.0 in
+        let q : walk_size (closing at_end.path at_end.comments_after_body at_end.comments_after_html) ≡ texts_size at_end.comments_after_body + texts_size at_end.comments_after_html = c.1 in
         rw (e, f) (omega arith, omega arith)

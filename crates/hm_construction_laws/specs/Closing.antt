@@ -3,26 +3,26 @@ use Rattle.std.specs.Prelude.{ℕ, zero, suc, pred, ◌+◌, ◌-◌, Bool, true
 use Rattle.hm_base.specs.Source.{Source, byte_of, place_in, source_of}
 use Rattle.hm_refs.specs.Names.{Entry}
 use Rattle.hm_tree.specs.Tokens.{taken, refused}
-use Rattle.hm_token_laws.specs.First.{Next, at_end, behind_bytes, first}
+use Rattle.hm_token_laws.specs.First.{Next, at_end, after_bytes, first}
 use Rattle.hm_construction_laws.specs.Steps.{InsertionMode, after_body, after_html, Construction, Stepped, went, stops, step, first_state}
 use Rattle.hm_construction_laws.specs.Trees.{mode_of}
 
 -- after the end tag of body or of html
-abbrev pub is_behind_body : InsertionMode → Bool
-is_behind_body after_body = true
-is_behind_body after_html = true
-is_behind_body insertion_mode = false
+abbrev pub is_after_body : InsertionMode → Bool
+is_after_body after_body = true
+is_after_body after_html = true
+is_after_body insertion_mode = false
 
 -- a step of a token that begins at an index of the text
 abbrev pub closed_step : (ℕ → ℕ) → ℕ → Stepped → (Construction → Option ℕ) → Option ℕ
-closed_step place at (went es next) more = if is_behind_body next.insertion_mode then Some (place at) else more next
+closed_step place at (went es next) more = if is_after_body next.insertion_mode then Some (place at) else more next
 closed_step place at (stops rule n) more = None
 
 -- the next token is stepped, and more reads on after it
 abbrev pub closed_next : (ℕ → ℕ) → ℕ → Construction → List ℕ → Next → (ℕ → Construction → Option ℕ) → Option ℕ
 closed_next place at st s at_end more = None
-closed_next place at st s (behind_bytes n (refused fault)) more = None
-closed_next place at st s (behind_bytes n (taken token rest)) more = closed_step place (at + n) (step st token) (more (pred (length s - length rest)))
+closed_next place at st s (after_bytes n (refused fault)) more = None
+closed_next place at st s (after_bytes n (taken token rest)) more = closed_step place (at + n) (step st token) (more (pred (length s - length rest)))
 
 -- the place of that token in what is left of a text from an index on; the first `skip` bytes are skipped
 abbrev pub closed_from : List Entry → (ℕ → ℕ) → ℕ → ℕ → Construction → List ℕ → Option ℕ

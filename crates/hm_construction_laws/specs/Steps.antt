@@ -11,7 +11,7 @@ use Rattle.hm_elements.specs.Names.{is_among, html, head, body, noscript, p}
 use Rattle.hm_elements.specs.Tables.{is_refused, is_metadata, preformatted}
 use Rattle.hm_elements.specs.Nesting.{noscript_children}
 use Rattle.hm_elements.specs.Paths.{html_element, current, is_in_svg, stands_on, is_open, is_in_raw, is_in_text, is_in_blank}
-use Rattle.hm_settle.specs.Moves.{Moves, moves, refuses, start_moves, end_moves, is_void_open}
+use Rattle.hm_open_elements.specs.Moves.{Moves, moves, refuses, start_moves, end_moves, is_void_open}
 use Rattle.hm_tree.specs.Tokens.{Seen}
 use Rattle.hm_tree.specs.Tokens as tokens
 
@@ -32,17 +32,17 @@ pub record Construction : Type 0 where
   pub insertion_mode : InsertionMode
   pub path : List Element
   pub drops_line_feed : Bool
-  pub behind_body : List (List ℕ)
-  pub behind_html : List (List ℕ)
+  pub comments_after_body : List (List ℕ)
+  pub comments_after_html : List (List ℕ)
 
 -- the events of a step and the next state, or a rule, with the number of bytes of the token before those that it refuses
 pub data Stepped : Type 0 where
   went : List Event → Construction → Stepped
   stops : Rule → ℕ → Stepped
 
-abbrev pub behind_events : List Event → Stepped → Stepped
-behind_events es (went fs st) = went (es ++ fs) st
-behind_events es (stops rule n) = stops rule n
+abbrev pub stepped_after_events : List Event → Stepped → Stepped
+stepped_after_events es (went fs st) = went (es ++ fs) st
+stepped_after_events es (stops rule n) = stops rule n
 
 abbrev pub moved : Construction → InsertionMode → List Element → Construction
 moved st insertion_mode path = record st { insertion_mode = insertion_mode; path = path }
@@ -59,16 +59,16 @@ abbrev pub under_body : List Element
 under_body = html_element body ∷ under_html
 
 abbrev pub make_html : (Construction → Stepped) → Construction → Stepped
-make_html more st = behind_events (start html false [] ∷ []) (more (moved st before_head under_html))
+make_html more st = stepped_after_events (start html false [] ∷ []) (more (moved st before_head under_html))
 
 abbrev pub make_head : (Construction → Stepped) → Construction → Stepped
-make_head more st = behind_events (start head false [] ∷ []) (more (moved st in_head under_head))
+make_head more st = stepped_after_events (start head false [] ∷ []) (more (moved st in_head under_head))
 
 abbrev pub close_head : (Construction → Stepped) → Construction → Stepped
-close_head more st = behind_events (end head false ∷ []) (more (moved st after_head under_html))
+close_head more st = stepped_after_events (end head false ∷ []) (more (moved st after_head under_html))
 
 abbrev pub make_body : (Construction → Stepped) → Construction → Stepped
-make_body more st = behind_events (start body false [] ∷ []) (more (moved st in_body under_body))
+make_body more st = stepped_after_events (start body false [] ∷ []) (more (moved st in_body under_body))
 
 -- what is missing up to the open head is made
 abbrev pub reach_head : InsertionMode → Rule → (Construction → Stepped) → Construction → Stepped
@@ -125,17 +125,17 @@ unfoldable pub step_byte : ℕ → Construction → Stepped
 step_byte c st = if st.drops_line_feed && c == 10 then went [] (no_drop st) else kept_byte c (no_drop st)
 
 -- a step after n bytes of the same token
-abbrev pub behind_bytes : ℕ → Stepped → Stepped
-behind_bytes n (went es st) = went es st
-behind_bytes n (stops rule k) = stops rule (n + k)
+abbrev pub after_bytes : ℕ → Stepped → Stepped
+after_bytes n (went es st) = went es st
+after_bytes n (stops rule k) = stops rule (n + k)
 
 abbrev pub then_step : Stepped → (Construction → Stepped) → Stepped
-then_step (went es st) more = behind_events es (more st)
+then_step (went es st) more = stepped_after_events es (more st)
 then_step (stops rule n) more = stops rule n
 
 abbrev pub step_bytes : List ℕ → Construction → Stepped
 step_bytes [] st = went [] st
-step_bytes (c ∷ s) st = then_step (step_byte c st) (λ next. behind_bytes 1 (step_bytes s next))
+step_bytes (c ∷ s) st = then_step (step_byte c st) (λ next. after_bytes 1 (step_bytes s next))
 
 -- what a reference gives is refused at its start
 abbrev pub at_front : Stepped → Stepped
@@ -145,9 +145,9 @@ at_front (stops rule n) = stops rule 0
 -- ---- Start tags
 
 -- a line feed directly after the start tags of these is dropped
-abbrev pub drops_behind : List Element → Bool
-drops_behind [] = false
-drops_behind (e ∷ path) = not e.foreign && is_among e.name preformatted
+abbrev pub drops_after : List Element → Bool
+drops_after [] = false
+drops_after (e ∷ path) = not e.foreign && is_among e.name preformatted
 
 -- the innermost element was opened by a tag: it closes at once if it is void, or one of SVG whose tag closes itself
 abbrev pub closes_at_once : Bool → List Element → Bool
@@ -157,7 +157,7 @@ abbrev pub entered : List Attribute → Bool → Construction → List Element �
 entered attributes slash st [] = went [] st
 entered attributes slash st (e ∷ path) =
     if closes_at_once slash (e ∷ path) then went (start e.name e.foreign attributes ∷ end e.name e.foreign ∷ []) (record st { path = path })
-    else went (start e.name e.foreign attributes ∷ []) (record st { path = e ∷ path; drops_line_feed = drops_behind (e ∷ path) })
+    else went (start e.name e.foreign attributes ∷ []) (record st { path = e ∷ path; drops_line_feed = drops_after (e ∷ path) })
 
 abbrev pub end_event : Element → Event
 end_event e = end e.name e.foreign
@@ -171,7 +171,7 @@ starts [] = []
 starts (e ∷ path) = starts path ++ start_event e ∷ []
 
 abbrev pub after_moves : List Attribute → Bool → Construction → Moves → Stepped
-after_moves attributes slash st (moves closed made path) = behind_events (map end_event closed ++ starts made) (entered attributes slash st path)
+after_moves attributes slash st (moves closed made path) = stepped_after_events (map end_event closed ++ starts made) (entered attributes slash st path)
 after_moves attributes slash st (refuses rule) = stops rule 0
 
 abbrev pub start_in_body : List ℕ → List Attribute → Bool → Construction → Stepped
@@ -313,8 +313,8 @@ step_end n st =
 -- ---- Comments and doctypes
 
 abbrev pub step_comment : InsertionMode → List ℕ → Construction → Stepped
-step_comment after_body s st = went [] (record st { behind_body = st.behind_body ++ s ∷ [] })
-step_comment after_html s st = went [] (record st { behind_html = st.behind_html ++ s ∷ [] })
+step_comment after_body s st = went [] (record st { comments_after_body = st.comments_after_body ++ s ∷ [] })
+step_comment after_html s st = went [] (record st { comments_after_html = st.comments_after_html ++ s ∷ [] })
 step_comment insertion_mode s st = went (comment s ∷ []) st
 
 abbrev pub step_doctype : InsertionMode → Bool → Construction → Stepped
@@ -349,9 +349,9 @@ unfoldable pub step_over : Construction → Stepped
 step_over st = if is_in_text st.path then stops Cut 0 else close_all (leave_page st.insertion_mode st)
   where
     close_all : Stepped → Stepped
-    close_all (went es at_end) = went (es ++ closing at_end.path at_end.behind_body at_end.behind_html) at_end
+    close_all (went es at_end) = went (es ++ closing at_end.path at_end.comments_after_body at_end.comments_after_html) at_end
     close_all (stops rule n) = stops rule n
 
 -- before the first token
 abbrev pub first_state : Construction
-first_state = record { insertion_mode = initial; path = []; drops_line_feed = false; behind_body = []; behind_html = [] }
+first_state = record { insertion_mode = initial; path = []; drops_line_feed = false; comments_after_body = []; comments_after_html = [] }

@@ -8,7 +8,7 @@ use Rattle.hm_elements.specs.Tables.{is_rcdata, is_raw}
 use Rattle.hm_elements.specs.Paths.{current, is_in_svg}
 use Rattle.hm_refs.specs.Names.{Entry}
 use Rattle.hm_tree.specs.Tokens.{taken, refused}
-use Rattle.hm_token_laws.specs.First.{Mode, ordinary, in_svg, rcdata, raw, script, Next, at_end, behind_bytes, first, rule_of}
+use Rattle.hm_token_laws.specs.First.{Mode, ordinary, in_svg, rcdata, raw, script, Next, at_end, after_bytes, first, rule_of}
 use Rattle.hm_construction_laws.specs.Steps.{Construction, Stepped, went, stops, step, step_over, first_state}
 
 -- a walk, or the rule that refuses the page and the byte of the page where it does
@@ -39,8 +39,8 @@ over place at st = stepped place at (step_over st) (λ next. built [])
 -- the next token is stepped, and more reads on after it
 abbrev pub next_step : (ℕ → ℕ) → ℕ → Construction → List ℕ → Next → (ℕ → Construction → Outcome) → Outcome
 next_step place at st s at_end more = over place (at + length s) st
-next_step place at st s (behind_bytes n (refused fault)) more = refused_by (rule_of fault) (place (at + n))
-next_step place at st s (behind_bytes n (taken token rest)) more = stepped place (at + n) (step st token) (more (pred (length s - length rest)))
+next_step place at st s (after_bytes n (refused fault)) more = refused_by (rule_of fault) (place (at + n))
+next_step place at st s (after_bytes n (taken token rest)) more = stepped place (at + n) (step st token) (more (pred (length s - length rest)))
 
 -- the tree of what is left of a text from an index on; the first `skip` bytes are skipped
 abbrev pub tree_from : List Entry → (ℕ → ℕ) → ℕ → ℕ → Construction → List ℕ → Outcome

@@ -43,10 +43,10 @@ texts_size [] = 0
 texts_size (s ∷ ss) = length s + texts_size ss
 
 abbrev pub load : Construction → ℕ
-load st = length st.path + (length st.behind_body + length st.behind_html) + left st.insertion_mode
+load st = length st.path + (length st.comments_after_body + length st.comments_after_html) + left st.insertion_mode
 
 abbrev pub load_size : Construction → ℕ
-load_size st = texts_size st.behind_body + texts_size st.behind_html + left_size st.insertion_mode
+load_size st = texts_size st.comments_after_body + texts_size st.comments_after_html + left_size st.insertion_mode
 
 -- how much weight a token may add
 abbrev pub cost : Seen → ℕ

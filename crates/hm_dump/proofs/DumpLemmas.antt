@@ -4,7 +4,7 @@ use Rattle.std.proofs.lemmas.Grind.{flat_map-append}
 use Rattle.std.proofs.lemmas.List.{append-nil, take_more, take-append-drop, get_or-drop}
 use Rattle.std.proofs.Math.Seq.{take-suc}
 use Rattle.std.proofs.lemmas.Option.{slice_get_within, get_or_from_slice_get}
-use Rattle.hm_base.specs.Walks.{Event, Element, path_behind, path_after}
+use Rattle.hm_base.specs.Walks.{Event, Element, path_after_event, path_after}
 use Rattle.hm_tree.specs.declared.events.EventView.{EventView}
 use Rattle.hm_tree.specs.declared.events.EventView.TheVariants.{Doctype, Start, Text, Comment, End}
 use Rattle.hm_tree.specs.Views.{event_of}
@@ -20,7 +20,7 @@ flat_map_step f xs i x at =
 -- lines of events, and of others after them
 pub lines_from-append : (path : List Element) (w v : List Event) → lines_from path (w ++ v) ≡ lines_from path w ++ lines_from (path_after path w) v
 lines_from-append path [] v = refl
-lines_from-append path (e ∷ w) v = ap (λ l. line_of (length path) e ++ l) (lines_from-append (path_behind path e) w v) ∙ sym (append_assoc (line_of (length path) e) (lines_from (path_behind path e) w) (lines_from (path_after (path_behind path e) w) v))
+lines_from-append path (e ∷ w) v = ap (λ l. line_of (length path) e ++ l) (lines_from-append (path_after_event path e) w v) ∙ sym (append_assoc (line_of (length path) e) (lines_from (path_after_event path e) w) (lines_from (path_after (path_after_event path e) w) v))
 
 module _ (w : List Event) (i : ℕ) (e : Event) (at : slice_get w i ≡ Some e) where
   taken : take (i + 1) w ≡ take i w ++ e ∷ []

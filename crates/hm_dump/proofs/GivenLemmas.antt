@@ -31,8 +31,8 @@ front_more old new s more h =
     record { taken = length front; bytes_are = h.bytes_are ∙ ap (append_known old) (sym same) }
 
 -- where a prefix of `more` was put after all of s, a prefix of both together was put
-front_behind : (old mid new : Option (List ℕ)) (s more : List ℕ) → mid ≡ append_known old s → AppendsFront mid new more → AppendsFront old new (s ++ more)
-front_behind old mid new s more is h = record {
+front_after : (old mid new : Option (List ℕ)) (s more : List ℕ) → mid ≡ append_known old s → AppendsFront mid new more → AppendsFront old new (s ++ more)
+front_after old mid new s more is h = record {
   taken = length s + h.taken;
   bytes_are = h.bytes_are ∙ ap (λ o. append_known o (take h.taken more)) is ∙ known_twice old s (take h.taken more) ∙ ap (append_known old) (sym (take-append-add s more h.taken));
 }
@@ -40,7 +40,7 @@ front_behind old mid new s more is h = record {
 module _ (sink_old sink_new : Option (List ℕ)) (faults_old faults_new : ℕ) (old new : Buffer) (more : List ℕ) where
   -- the bytes that wait are put with more after them, and then nothing waits
   pub Gives-put : (put : List ℕ) → Puts sink_old sink_new faults_old faults_new old.failed new.failed put → put ≡ old.bytes.items ++ more → new.bytes.items ≡ [] → Gives sink_old sink_new faults_old faults_new old new more
-  Gives-put put h is none = record { behind = λ sink faults given before. subst (λ w. ArePut sink sink_new faults faults_new (given ++ more) w new.failed) (sym none) (go old.failed new.failed sink faults given before h) }
+  Gives-put put h is none = record { after = λ sink faults given before. subst (λ w. ArePut sink sink_new faults faults_new (given ++ more) w new.failed) (sym none) (go old.failed new.failed sink faults given before h) }
     where
       go : (failed_old failed_new : Bool) (sink : Option (List ℕ)) (faults : ℕ) (given : List ℕ) → ArePut sink sink_old faults faults_old given old.bytes.items failed_old → Puts sink_old sink_new faults_old faults_new failed_old failed_new put
           → ArePut sink sink_new faults faults_new (given ++ more) [] failed_new
@@ -58,11 +58,11 @@ module _ (sink_old sink_new : Option (List ℕ)) (faults_old faults_new : ℕ) (
       go false true sink faults given before h =
           let split = before.1 in
           let whole : split.put ++ put ≡ given ++ more = ap (λ s. split.put ++ s) is ∙ sym (append_assoc split.put old.bytes.items more) ∙ ap (λ s. s ++ more) split.whole in
-          (omega (arith, before.0, h.0), subst (AppendsFront sink sink_new) whole (front_behind sink sink_old sink_new split.put put split.sunk h.1), rose_later faults faults_old faults_new (omega (arith, before.0)) h.2)
+          (omega (arith, before.0, h.0), subst (AppendsFront sink sink_new) whole (front_after sink sink_old sink_new split.put put split.sunk h.1), rose_later faults faults_old faults_new (omega (arith, before.0)) h.2)
 
   -- once a put has failed, more is left out
   pub Gives-failed : (rest : List ℕ) → new.failed ≡ true → Gives sink_old sink_new faults_old faults_new old new more → Gives sink_old sink_new faults_old faults_new old new (more ++ rest)
-  Gives-failed rest failed h = record { behind = λ sink faults given before. go new.failed sink faults given failed (h.behind sink faults given before) }
+  Gives-failed rest failed h = record { after = λ sink faults given before. go new.failed sink faults given failed (h.after sink faults given before) }
     where
       go : (failed_new : Bool) (sink : Option (List ℕ)) (faults : ℕ) (given : List ℕ) → failed_new ≡ true → ArePut sink sink_new faults faults_new (given ++ more) new.bytes.items failed_new → ArePut sink sink_new faults faults_new (given ++ (more ++ rest)) new.bytes.items failed_new
       go true sink faults given failed h = (h.0, subst (AppendsFront sink sink_new) (append_assoc given more rest) (front_more sink sink_new (given ++ more) rest h.1), h.2)
@@ -70,12 +70,12 @@ module _ (sink_old sink_new : Option (List ℕ)) (faults_old faults_new : ℕ) (
 
   -- all that was given to a buffer in which nothing waited
   pub Gives-all : IsFresh old → Gives sink_old sink_new faults_old faults_new old new more → ArePut sink_old sink_new faults_old faults_new more new.bytes.items new.failed
-  Gives-all fresh h = h.behind sink_old faults_old [] (rw (fresh.empty, fresh.sound) (refl, record { put = []; sunk = sym (known_none sink_old); whole = refl }))
+  Gives-all fresh h = h.after sink_old faults_old [] (rw (fresh.empty, fresh.sound) (refl, record { put = []; sunk = sym (known_none sink_old); whole = refl }))
 
 module _ (sink : Option (List ℕ)) (faults : ℕ) (old new : Buffer) where
   -- more waits
   pub Gives-wait : (more : List ℕ) → new.bytes.items ≡ old.bytes.items ++ more → new.failed ≡ old.failed → Gives sink sink faults faults old new more
-  Gives-wait more waits same = record { behind = λ start before given h. rw (waits, same) (go old.failed start before given h) }
+  Gives-wait more waits same = record { after = λ start before given h. rw (waits, same) (go old.failed start before given h) }
     where
       go : (failed : Bool) (start : Option (List ℕ)) (before : ℕ) (given : List ℕ) → ArePut start sink before faults given old.bytes.items failed → ArePut start sink before faults (given ++ more) (old.bytes.items ++ more) failed
       go false start before given h = (h.0, record { put = h.1.put; sunk = h.1.sunk; whole = sym (append_assoc h.1.put old.bytes.items more) ∙ ap (λ s. s ++ more) h.1.whole })
@@ -89,7 +89,7 @@ Gives-none sink faults old = Gives-wait sink faults old old [] (sym (append-nil 
 pub Gives-then : {sink_old sink_mid sink_new : Option (List ℕ)} {faults_old faults_mid faults_new : ℕ} {old mid new : Buffer} {a b : List ℕ}
     → Gives sink_old sink_mid faults_old faults_mid old mid a → Gives sink_mid sink_new faults_mid faults_new mid new b → Gives sink_old sink_new faults_old faults_new old new (a ++ b)
 Gives-then {sink_old} {sink_mid} {sink_new} {faults_old} {faults_mid} {faults_new} {old} {mid} {new} {a} {b} first second = record {
-  behind = λ sink faults given before. subst (λ s. ArePut sink sink_new faults faults_new s new.bytes.items new.failed) (append_assoc given a b) (second.behind sink faults (given ++ a) (first.behind sink faults given before));
+  after = λ sink faults given before. subst (λ s. ArePut sink sink_new faults faults_new s new.bytes.items new.failed) (append_assoc given a b) (second.after sink faults (given ++ a) (first.after sink faults given before));
 }
 
 module _ (sink_old sink_new : Option (List ℕ)) (faults_old faults_new : ℕ) (old new : Buffer) (all : List ℕ) (fresh : IsFresh old) (given : Gives sink_old sink_new faults_old faults_new old new all) where

@@ -17,7 +17,7 @@ plain_more s from at width h inside none k low high = by_test (nat_lt k at) refl
     by_test : (b : Bool) → nat_lt k at ≡ b → is_escaped (get_or s k 0) ≡ false
     by_test true e = h k low (grind arith)
     by_test false e =
-        let behind : at ≤ k = grind arith in
+        let after : at ≤ k = grind arith in
         let part = drop at s in
         let short : k - at < at + width - at = omega arith in
         let there : k - at < length (take (at + width - at) part) = omega (arith, length-take (at + width - at) part, length-drop at s) in

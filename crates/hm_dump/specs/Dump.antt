@@ -1,6 +1,6 @@
 -- A walk as lines of text, one for each event but the ends.
 use Rattle.std.specs.Prelude.{ℕ, ◌*◌, ◌==◌, true, false, List, [], ◌∷◌, ◌++◌, length, replicate, flat_map, codes, if◌then◌else◌}
-use Rattle.hm_base.specs.Walks.{Event, doctype, start, text, comment, end, Attribute, Element, path_behind}
+use Rattle.hm_base.specs.Walks.{Event, doctype, start, text, comment, end, Attribute, Element, path_after_event}
 
 -- a byte inside quotes: `\"`, `\\`, `\n`, `\r` and `\t` for these characters, any other as it is
 abbrev pub quoted_byte : ℕ → List ℕ
@@ -46,7 +46,7 @@ line_of depth (end n foreign) = []
 -- the lines of the events, before which the elements of this path are open
 abbrev pub lines_from : List Element → List Event → List ℕ
 lines_from path [] = []
-lines_from path (e ∷ w) = line_of (length path) e ++ lines_from (path_behind path e) w
+lines_from path (e ∷ w) = line_of (length path) e ++ lines_from (path_after_event path e) w
 
 abbrev pub dump_of : List Event → List ℕ
 dump_of w = lines_from [] w

@@ -30,4 +30,4 @@ ArePut sink_old sink_new faults_old faults_new given waiting true = (faults_old 
 
 -- Further bytes are given: whatever was given since the sink was as it began, these are given after it.
 pub record Gives (sink_old sink_new : Option (List ℕ)) (faults_old faults_new : ℕ) (old new : Buffer) (more : List ℕ) : Type 0 where
-  pub behind : (sink : Option (List ℕ)) (faults : ℕ) (given : List ℕ) → ArePut sink sink_old faults faults_old given old.bytes.items old.failed → ArePut sink sink_new faults faults_new (given ++ more) new.bytes.items new.failed
+  pub after : (sink : Option (List ℕ)) (faults : ℕ) (given : List ℕ) → ArePut sink sink_old faults faults_old given old.bytes.items old.failed → ArePut sink sink_new faults faults_new (given ++ more) new.bytes.items new.failed

@@ -46,14 +46,14 @@ impl Buffer {
         if bytes.len() <= self.bytes.capacity() - self.bytes.len() {
             append(&mut self.bytes, bytes);
         } else {
-            self.give_behind(out, bytes);
+            self.give_after(out, bytes);
         }
     }
 
     /// Puts what waits, and gives the bytes then.
     #[cold]
     #[inline(never)]
-    fn give_behind<O: Sink>(&mut self, out: &mut O, bytes: &[u8])
+    fn give_after<O: Sink>(&mut self, out: &mut O, bytes: &[u8])
         ensures { Gives (O.contents out.old) (O.contents out.new) (O.faults out.old) (O.faults out.new) self.old self.new bytes.now }
     {
         self.flush(out);

@@ -1,6 +1,6 @@
 //! The lines of a tree, given piece by piece.
 ghost use Rattle.std.specs.Prelude.{◌≡◌, ◌+◌, ◌^◌, ◌<◌, ◌≤◌, ◌++◌, ◌∷◌, [], List, flat_map, length, get_or};
-ghost use Rattle.hm_base.specs.Walks.{Element, doctype, path_behind};
+ghost use Rattle.hm_base.specs.Walks.{Element, doctype, path_after_event};
 ghost use Rattle.hm_dump.specs.Dump.{attribute_text, dump_of, event_text, line_of, quoted_byte, spaces_for};
 ghost use Rattle.hm_dump.specs.Given.{Gives};
 ghost use Rattle.hm_tree.specs.Views.{event_of, attributes_shown};
@@ -24,14 +24,14 @@ pub(crate) fn give_lines<O: Sink>(buffer: &mut Buffer, out: &mut O, tree: &Tree)
         }
         let event = tree.event(i);
         give_line(buffer, out, depth, &event);
-        depth = depth_behind(depth, &event);
+        depth = depth_after_event(depth, &event);
     }
 }
 
 /// How many elements are open after an event, by those that are open before it.
-fn depth_behind(depth: u32, event: &EventView<'_>) -> u32
+fn depth_after_event(depth: u32, event: &EventView<'_>) -> u32
     requires { depth + 1 < 2 ^ 32 }
-    ensures depth { (path : List Element) → depth ≡ length path → result ≡ length (path_behind path (event_of event.now)) }
+    ensures depth { (path : List Element) → depth ≡ length path → result ≡ length (path_after_event path (event_of event.now)) }
     ensures bound { result ≤ depth + 1 }
 {
     match event {

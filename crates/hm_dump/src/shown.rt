@@ -7,7 +7,7 @@ ghost use Rattle.hm_dump.specs.Dump.{dump_of};
 
 use crate::buffer::Buffer;
 use crate::lines::give_lines;
-use hm_base::Memory;
+use hm_base::OutOfMemory;
 use hm_store::{Failed, Sink};
 use hm_tree::Tree;
 use std::alloc::Global;
@@ -35,7 +35,7 @@ impl Model for Shown {
 
 impl Shown {
     /// The lines of a tree. All memory that it takes to put them is taken here, and it is the same for every tree.
-    pub fn of(alloc: Global, tree: Tree) -> Result<Shown, Memory>
+    pub fn of(alloc: Global, tree: Tree) -> Result<Shown, OutOfMemory>
         ensures { IfOk result (λ shown. shown ≡ dump_of tree) }
     {
         let room = Vec::with_capacity(alloc, ROOM)?;

@@ -4,7 +4,7 @@ use Rattle.hm_graph_laws.proofs.States.{same_is}
 use Rattle.hm_refs.specs.Tables.{TableView, IsNode, front_at}
 use Rattle.hm_graph_laws.specs.States as states
 use Rattle.hm_edges.specs.declared.states.Where.{Where}
-use Rattle.hm_edges.specs.declared.states.Where.TheVariants.{Outside, Loose, SelfClosed, BehindName, BehindUnquoted, BehindQuoted, InUnquoted, InDouble, InSingle, InSection}
+use Rattle.hm_edges.specs.declared.states.Where.TheVariants.{Outside, Loose, SelfClosed, AfterName, AfterUnquoted, AfterQuoted, InUnquoted, InDouble, InSingle, InSection}
 use Rattle.hm_edges.specs.declared.states.Pending.{Pending}
 use Rattle.hm_edges.specs.declared.states.Pending.TheVariants.{Nothing, LessThan, Hash, HashX, Decimal, Hexadecimal, Ampersand, Named, Half, OneBracket, TwoBrackets}
 use Rattle.hm_edges.specs.declared.states.State.{State}
@@ -14,9 +14,9 @@ abbrev where_back : states.Where → Where
 where_back states.outside = Outside
 where_back states.loose = Loose
 where_back states.self_closed = SelfClosed
-where_back states.behind_name = BehindName
-where_back states.behind_unquoted = BehindUnquoted
-where_back states.behind_quoted = BehindQuoted
+where_back states.after_name = AfterName
+where_back states.after_unquoted = AfterUnquoted
+where_back states.after_quoted = AfterQuoted
 where_back states.in_unquoted = InUnquoted
 where_back states.in_double = InDouble
 where_back states.in_single = InSingle
@@ -26,9 +26,9 @@ there_and_back : (a : Where) → where_back (where_of a) ≡ a
 there_and_back Outside = refl
 there_and_back Loose = refl
 there_and_back SelfClosed = refl
-there_and_back BehindName = refl
-there_and_back BehindUnquoted = refl
-there_and_back BehindQuoted = refl
+there_and_back AfterName = refl
+there_and_back AfterUnquoted = refl
+there_and_back AfterQuoted = refl
 there_and_back InUnquoted = refl
 there_and_back InDouble = refl
 there_and_back InSingle = refl

@@ -5,7 +5,7 @@ use Rattle.std.proofs.lemmas.List.{drop_all}
 use Rattle.std.proofs.Math.Seq.{get_or-append_seam}
 use Rattle.std.proofs.lemmas.Slice.Eq.{bytes_eq-Decides}
 use Rattle.hm_base.specs.Bytes.{head_is}
-use Rattle.hm_base.specs.declared.plain.Memory.{Memory}
+use Rattle.hm_base.specs.declared.plain.OutOfMemory.{OutOfMemory}
 use Rattle.hm_refs.specs.Names.{Entry}
 use Rattle.hm_refs.specs.Tables.{TableView, entry_at, is_for, no_entry, places_from, places_for}
 use Rattle.hm_graph_laws.specs.CharacterEdges.{Choice, choice, by_names, kept_at}
@@ -62,9 +62,9 @@ places_within c i (e ∷ t) k l = by_test (is_for c e) k l (λ j m. places_withi
   where
     by_test : (b : Bool) (k : ℕ) → k < length (cond b (i ∷ places_from c (suc i) t) (places_from c (suc i) t)) → ((j : ℕ) → j < length (places_from c (suc i) t) → get_or (places_from c (suc i) t) j 0 < suc i + length t)
         → get_or (cond b (i ∷ places_from c (suc i) t) (places_from c (suc i) t)) k 0 < i + length (e ∷ t)
-    by_test true zero l behind = omega arith
-    by_test true (suc k) l behind = let h : get_or (places_from c (suc i) t) k 0 < suc i + length t = behind k (omega arith) in omega arith
-    by_test false k l behind = let h : get_or (places_from c (suc i) t) k 0 < suc i + length t = behind k l in omega arith
+    by_test true zero l after = omega arith
+    by_test true (suc k) l after = let h : get_or (places_from c (suc i) t) k 0 < suc i + length t = after k (omega arith) in omega arith
+    by_test false k l after = let h : get_or (places_from c (suc i) t) k 0 < suc i + length t = after k l in omega arith
 
 pub place_inside : (c : ℕ) (t : List Entry) (k : ℕ) → k < length (places_for c t) → get_or (places_for c t) k 0 < length t
 unfolding places_for
@@ -73,7 +73,7 @@ place_inside c t k l = let h : get_or (places_from c 0 t) k 0 < 0 + length t = p
 -- the edges by some names are added, and those at these places are left
 pub record SomeNames (v : TableView) (u : units.Unit) (before now : List Edge) (at : Where) (to : List ℕ → Pending) (points : List ℕ) (left : List ℕ) : Type 0 where
   pub done : List graph.Edge
-  pub adds : AddsEdges {E = Memory} (Ok tt) v u before now done
+  pub adds : AddsEdges {E = OutOfMemory} (Ok tt) v u before now done
   pub whole : done ++ map (kept_at at) (names_at to points v.entries left) ≡ map (kept_at at) (by_names to points v.entries)
 
 -- the one at a place, and those at the places after it
@@ -84,13 +84,13 @@ left_on at to points t is k id l e =
     ∙ ap (λ i. map (kept_at at) (names_at to points t (i ∷ drop (k + 1) is))) e
     ∙ ap (λ w. map (kept_at at) (names_at to points t w)) (sym (rest_cons is k l))
 
-pub names_stopped : (q r : Result (Prim.Unit {0}) Memory) (x : Memory) (v : TableView) (u : units.Unit) (before between now : List Edge) (at : Where) (to : List ℕ → Pending) (points is : List ℕ) (k id : ℕ) → k < length is → id ≡ get_or is k 0
+pub names_stopped : (q r : Result (Prim.Unit {0}) OutOfMemory) (x : OutOfMemory) (v : TableView) (u : units.Unit) (before between now : List Edge) (at : Where) (to : List ℕ → Pending) (points is : List ℕ) (k id : ℕ) → k < length is → id ≡ get_or is k 0
     → SomeNames v u before between at to points (drop k is) → q ≡ Err x → IsErr r → AddsEdges q v u between now (map (kept_at at) (by_names to points (entry_at v.entries id ∷ []))) → AddsEdges r v u before now (map (kept_at at) (by_names to points v.entries))
 names_stopped q r x v u before between now at to points is k id l e some was err h =
     adds_as _ _ _ _ _ _ _ (ap (λ w. some.done ++ w) (left_on at to points v.entries is k id l e) ∙ some.whole)
     (adds_then _ _ _ _ _ _ _ _ _ tt refl some.adds (adds_stopped q r x v u between now _ _ was err h))
 
-pub names_more : (q : Result (Prim.Unit {0}) Memory) (x : Prim.Unit {0}) (v : TableView) (u : units.Unit) (before between now : List Edge) (at : Where) (to : List ℕ → Pending) (points is : List ℕ) (k id : ℕ) → k < length is → id ≡ get_or is k 0
+pub names_more : (q : Result (Prim.Unit {0}) OutOfMemory) (x : Prim.Unit {0}) (v : TableView) (u : units.Unit) (before between now : List Edge) (at : Where) (to : List ℕ → Pending) (points is : List ℕ) (k id : ℕ) → k < length is → id ≡ get_or is k 0
     → SomeNames v u before between at to points (drop k is) → q ≡ Ok x → AddsEdges q v u between now (map (kept_at at) (by_names to points (entry_at v.entries id ∷ []))) → SomeNames v u before now at to points (drop (k + 1) is)
 names_more (Err y) x v u before between now at to points is k id l e some was h = absurd (cc)
 names_more (Ok y) x v u before between now at to points is k id l e some was h =
@@ -102,7 +102,7 @@ names_more (Ok y) x v u before between now at to points is k id l e some was h =
     }
 
 pub names_done : (v : TableView) (u : units.Unit) (before now : List Edge) (at : Where) (to : List ℕ → Pending) (points is : List ℕ) (k : ℕ) → length is ≤ k
-    → SomeNames v u before now at to points (drop k is) → AddsEdges {E = Memory} (Ok tt) v u before now (map (kept_at at) (by_names to points v.entries))
+    → SomeNames v u before now at to points (drop k is) → AddsEdges {E = OutOfMemory} (Ok tt) v u before now (map (kept_at at) (by_names to points v.entries))
 names_done v u before now at to points is k l some =
     let end : drop k is ≡ [] = drop_all k is l in
     let all : some.done ≡ map (kept_at at) (by_names to points v.entries) = sym (append-nil some.done) ∙ ap (λ w. some.done ++ map (kept_at at) (names_at to points v.entries w)) (sym end) ∙ some.whole in

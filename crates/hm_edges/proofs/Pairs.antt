@@ -4,7 +4,7 @@ use Rattle.std.specs.List.{list_any}
 use Rattle.hm_refs.specs.Names.{Entry}
 use Rattle.hm_refs.specs.Numbers.{best_number}
 use Rattle.hm_spelling_spec.specs.Characters.{CharacterRules, Spot}
-use Rattle.hm_graph_laws.specs.CharacterEdges.{choice, by_names, by_pairs, by_decimal, by_hexadecimal, behind_name, behind_pair, half_of, choices, choices_by, as_itself, character_edges, is_in_section, section_edges, opened_sections, kept_at, spot_at}
+use Rattle.hm_graph_laws.specs.CharacterEdges.{choice, by_names, by_pairs, by_decimal, by_hexadecimal, after_name, after_pair, half_of, choices, choices_by, as_itself, character_edges, is_in_section, section_edges, opened_sections, kept_at, spot_at}
 use Rattle.hm_graph_laws.specs.States.{Pending, State}
 use Rattle.hm_graph_laws.specs.Units.{TextKind}
 use Rattle.hm_edges.specs.Characters.{edges_by_pair, rules_with}
@@ -17,8 +17,8 @@ no_names to points (e ∷ t) h = by_test (bytes_eq e.points points) refl (λ k. 
   where
     by_test : (b : Bool) → bytes_eq e.points points ≡ b → (list_any (λ (d : Entry). bytes_eq d.points points) t ≡ false → [] ≡ by_names to points t)
         → [] ≡ cond b (choice e.name (to e.name) ∷ by_names to points t) (by_names to points t)
-    by_test true k behind = absurd (grind arith)
-    by_test false k behind = behind (grind arith)
+    by_test true k after = absurd (grind arith)
+    by_test false k after = after (grind arith)
 
 pairs_are : (t : List Entry) (c : ℕ) (next : Option ℕ) → by_pairs t c (pair_of t c next) ≡ by_pairs t c next
 pairs_are t c None = refl
@@ -26,7 +26,7 @@ pairs_are t c (Some d) = by_test (has_pair t c d) refl
   where
     by_test : (b : Bool) → has_pair t c d ≡ b → by_pairs t c (cond b (Some d) None) ≡ by_pairs t c (Some d)
     by_test true h = refl
-    by_test false h = no_names behind_pair (c ∷ d ∷ []) t h
+    by_test false h = no_names after_pair (c ∷ d ∷ []) t h
 
 pub choices_are : (t : List Entry) (rules : CharacterRules) (spot : Spot) (c : ℕ) (pair next : Option ℕ) (p : Pending) → pair ≡ pair_of t c next → choices t rules spot c pair p ≡ choices t rules spot c next p
 choices_are t rules spot c pair next p e = by_half (half_of p)
@@ -35,7 +35,7 @@ choices_are t rules spot c pair next p e = by_half (half_of p)
     by_half (Some left) = refl
     by_half None =
         rw e
-        (ap (λ two. as_itself t rules spot c p ++ cond (is_some (step t spot p 38) && rules.refers c) (by_names behind_name (c ∷ []) t ++ (two ++ (by_decimal (best_number c) ++ by_hexadecimal c))) []) (pairs_are t c next))
+        (ap (λ two. as_itself t rules spot c p ++ cond (is_some (step t spot p 38) && rules.refers c) (by_names after_name (c ∷ []) t ++ (two ++ (by_decimal (best_number c) ++ by_hexadecimal c))) []) (pairs_are t c next))
 
 -- the edges of a character, with the next code point where a name gives the two
 pub by_pair_is : (t : List Entry) (ascii : Bool) (kind : TextKind) (c : ℕ) (pair next : Option ℕ) (s : State) → pair ≡ pair_of t c next → edges_by_pair t ascii kind c pair next s ≡ character_edges t (rules_with t ascii) kind c next s

@@ -1,7 +1,7 @@
 -- Sections: whether there is a next character, and where a section may begin.
 use Rattle.std.proofs.Common.{◌≡◌, ℕ, Bool, true, false, not, cond, ◌&&◌, List, [], ◌∷◌, ◌++◌, Option, Some, None, is_some, refl, codes, encode_utf8}
 use Rattle.hm_spelling_spec.specs.Characters.{is_foreign, is_writable}
-use Rattle.hm_graph_laws.specs.CharacterEdges.{spot_at, section_edges_by, opened_sections, in_section_behind, is_outside, half_of}
+use Rattle.hm_graph_laws.specs.CharacterEdges.{spot_at, section_edges_by, opened_sections, in_section_after, is_outside, half_of}
 use Rattle.hm_graph_laws.specs.Edges.{edge, edge_to}
 use Rattle.hm_graph_laws.specs.States as states
 use Rattle.hm_graph_laws.specs.States.{Where, Pending, State, in_section, first_state, value_spot}
@@ -10,7 +10,7 @@ use Rattle.hm_edges.specs.declared.units.TextKind.TheVariants.{Text, Rcdata, For
 use Rattle.hm_edges.specs.Units.{kind_of, is_foreign_kind}
 
 pub going_on : (next : Option ℕ) (more : Bool) (front : List ℕ) (c : ℕ) (p : Pending) → more ≡ is_some next
-    → cond more (edge (front ++ encode_utf8 c) in_section (in_section_behind c p) ∷ []) [] ++ edge_to (front ++ (encode_utf8 c ++ codes "]]>")) first_state ∷ [] ≡ section_edges_by next front c p
+    → cond more (edge (front ++ encode_utf8 c) in_section (in_section_after c p) ∷ []) [] ++ edge_to (front ++ (encode_utf8 c ++ codes "]]>")) first_state ∷ [] ≡ section_edges_by next front c p
 going_on None more front c p e = rw e refl
 going_on (Some d) more front c p e = rw e refl
 
@@ -18,9 +18,9 @@ never_foreign : (at : Where) → is_foreign (value_spot at) ≡ false
 never_foreign states.outside = refl
 never_foreign states.loose = refl
 never_foreign states.self_closed = refl
-never_foreign states.behind_name = refl
-never_foreign states.behind_unquoted = refl
-never_foreign states.behind_quoted = refl
+never_foreign states.after_name = refl
+never_foreign states.after_unquoted = refl
+never_foreign states.after_quoted = refl
 never_foreign states.in_unquoted = refl
 never_foreign states.in_double = refl
 never_foreign states.in_single = refl

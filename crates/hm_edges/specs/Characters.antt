@@ -3,7 +3,7 @@ use Rattle.std.specs.Prelude.{ℕ, Bool, true, false, List, ◌++◌, map, Optio
 use Rattle.hm_graph_laws.specs.ExchangeLaws.{needs_reference}
 use Rattle.hm_refs.specs.Names.{Entry}
 use Rattle.hm_spelling_spec.specs.Characters.{CharacterRules}
-use Rattle.hm_graph_laws.specs.CharacterEdges.{spot_at, behind_name, behind_pair, choices, section_edges, opened_sections, is_in_section, kept_at}
+use Rattle.hm_graph_laws.specs.CharacterEdges.{spot_at, after_name, after_pair, choices, section_edges, opened_sections, is_in_section, kept_at}
 use Rattle.hm_graph_laws.specs.Edges.{Edge}
 use Rattle.hm_graph_laws.specs.States.{Pending, State}
 use Rattle.hm_graph_laws.specs.Units.{TextKind}
@@ -13,9 +13,9 @@ abbrev pub rules_with : List Entry → Bool → CharacterRules
 rules_with t ascii = record { ascii = ascii; refers = needs_reference t }
 
 -- what is pending after a name for one code point, or for two
-abbrev pub behind_by : Bool → List ℕ → Pending
-behind_by false = behind_name
-behind_by true = behind_pair
+abbrev pub after_by : Bool → List ℕ → Pending
+after_by false = after_name
+after_by true = after_pair
 
 -- the edges of a character outside of sections, and in one; of the next code point the names ask for the pair alone
 abbrev pub edges_by_pair : List Entry → Bool → TextKind → ℕ → Option ℕ → Option ℕ → State → List Edge

@@ -6,8 +6,8 @@ use Rattle.hm_refs.specs.Names.{Entry}
 use Rattle.hm_refs.specs.Tables.{TableView, entry_at}
 use Rattle.hm_graph_laws.specs.Edges as edges
 use Rattle.hm_graph_laws.specs.Units as units
-use Rattle.hm_edges.specs.declared.pieces.Form.{Form}
-use Rattle.hm_edges.specs.declared.pieces.Form.TheVariants as forms
+use Rattle.hm_edges.specs.declared.pieces.Quoting.{Quoting}
+use Rattle.hm_edges.specs.declared.pieces.Quoting.TheVariants as forms
 use Rattle.hm_edges.specs.declared.pieces.Piece.{Piece}
 use Rattle.hm_edges.specs.declared.pieces.Piece.TheVariants as pieces
 use Rattle.hm_edges.specs.declared.pieces.Edge.{Edge}
@@ -29,7 +29,7 @@ abbrev pub with_gap : Bool → List ℕ → List ℕ
 with_gap gap b = (if gap then 32 ∷ [] else []) ++ b
 
 -- a name with what opens a value
-abbrev pub with_opening : Form → List ℕ → List ℕ
+abbrev pub with_opening : Quoting → List ℕ → List ℕ
 with_opening forms.Bare n = n
 with_opening forms.Unquoted n = n ++ codes "="
 with_opening forms.Double n = n ++ codes "=\""

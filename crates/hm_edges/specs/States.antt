@@ -5,7 +5,7 @@ use Rattle.hm_refs.specs.Tables.{TableView, IsNode, front_at}
 use Rattle.hm_spelling_spec.specs.Characters as spots
 use Rattle.hm_graph_laws.specs.States as states
 use Rattle.hm_edges.specs.declared.states.Where.{Where}
-use Rattle.hm_edges.specs.declared.states.Where.TheVariants.{Outside, Loose, SelfClosed, BehindName, BehindUnquoted, BehindQuoted, InUnquoted, InDouble, InSingle, InSection}
+use Rattle.hm_edges.specs.declared.states.Where.TheVariants.{Outside, Loose, SelfClosed, AfterName, AfterUnquoted, AfterQuoted, InUnquoted, InDouble, InSingle, InSection}
 use Rattle.hm_edges.specs.declared.states.Pending.{Pending}
 use Rattle.hm_edges.specs.declared.states.Pending.TheVariants.{Nothing, LessThan, Hash, HashX, Decimal, Hexadecimal, Ampersand, Named, Half, OneBracket, TwoBrackets}
 use Rattle.hm_edges.specs.declared.states.Spot.{Spot}
@@ -16,9 +16,9 @@ abbrev pub where_of : Where → states.Where
 where_of Outside = states.outside
 where_of Loose = states.loose
 where_of SelfClosed = states.self_closed
-where_of BehindName = states.behind_name
-where_of BehindUnquoted = states.behind_unquoted
-where_of BehindQuoted = states.behind_quoted
+where_of AfterName = states.after_name
+where_of AfterUnquoted = states.after_unquoted
+where_of AfterQuoted = states.after_quoted
 where_of InUnquoted = states.in_unquoted
 where_of InDouble = states.in_double
 where_of InSingle = states.in_single

@@ -4,7 +4,7 @@ use Rattle.std.specs.List.{list_any}
 use Rattle.hm_refs.specs.Names.{Entry}
 use Rattle.hm_graph_laws.specs.Units as units
 use Rattle.hm_graph_laws.specs.Units.{next_of}
-use Rattle.hm_graph_laws.specs.Forms.{is_dear}
+use Rattle.hm_graph_laws.specs.Forms.{is_costly}
 use Rattle.hm_spelling_spec.specs.Characters.{is_barred}
 use Rattle.hm_edges.specs.declared.units.TextKind.{TextKind}
 use Rattle.hm_edges.specs.declared.units.TextKind.TheVariants as kinds
@@ -40,15 +40,15 @@ abbrev pub needs_quotes : ℕ → Bool
 needs_quotes c = is_barred c && not (c == 13 || (c == 34 || c == 39))
 
 -- whether a reference to a character of this kind is dear
-abbrev pub some_dear : List Entry → (ℕ → Bool) → Option ℕ → List ℕ → Bool
-some_dear t kind previous [] = false
-some_dear t kind previous (c ∷ v) = (kind c && is_dear t previous c (next_of v)) || some_dear t kind (Some c) v
+abbrev pub some_costly : List Entry → (ℕ → Bool) → Option ℕ → List ℕ → Bool
+some_costly t kind previous [] = false
+some_costly t kind previous (c ∷ v) = (kind c && is_costly t previous c (next_of v)) || some_costly t kind (Some c) v
 
 abbrev pub need_by : Bool → Bool → Need
-need_by has dear = if dear then need.Dear else if has then need.Cheap else need.Absent
+need_by has costly = if costly then need.Dear else if has then need.Cheap else need.Absent
 
 abbrev pub need_for : List Entry → (ℕ → Bool) → List ℕ → Need
-need_for t kind v = need_by (list_any kind v) (some_dear t kind None v)
+need_for t kind v = need_by (list_any kind v) (some_costly t kind None v)
 
 -- what the code points of a value need, by the names of a table
 abbrev pub needs_of : List Entry → List ℕ → Needs

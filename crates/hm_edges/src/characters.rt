@@ -10,7 +10,7 @@ ghost use Rattle.hm_graph_laws.specs.CharacterEdges as characters;
 ghost use Rattle.hm_graph_laws.specs.States as states;
 ghost use Rattle.hm_graph_laws.specs.Steps as steps;
 ghost use Rattle.hm_graph_laws.specs.Units as units;
-ghost use Rattle.hm_edges.specs.Characters.{behind_by, edges_by_pair, rules_with};
+ghost use Rattle.hm_edges.specs.Characters.{after_by, edges_by_pair, rules_with};
 ghost use Rattle.hm_edges.specs.Found.{AddsEdges};
 ghost use Rattle.hm_edges.specs.Pieces.{AreOfTable, own_bytes};
 ghost use Rattle.hm_edges.specs.States.{HasNodes, pending_of, spot_of, state_of, where_of};
@@ -24,7 +24,7 @@ use crate::sections::{
 use crate::states::{Pending, Spot, State, Where};
 use crate::steps::{is_value, step};
 use crate::units::TextKind;
-use hm_base::{Memory, is_space};
+use hm_base::{OutOfMemory, is_space};
 use hm_refs::{NameId, Node, Table, best_number};
 
 /// A character that is to be spelled, as its unit has it.
@@ -83,17 +83,17 @@ fn run(table: &Table, spot: Spot, pending: Pending, bytes: &[u8]) -> Option<Pend
         ≡ steps.run table.now.entries (spot_of spot) (Some (pending_of table.now pending)) bytes.now }
     ensures nodes { IfSome result (HasNodes table.now) }
 {
-    let mut behind = pending;
+    let mut after = pending;
     for byte in bytes {
-        behind = step(behind, table, spot, *byte)?;
+        after = step(after, table, spot, *byte)?;
     }
-    Some(behind)
+    Some(after)
 }
 
-/// What is pending after a character as itself, where its bytes leave `behind`.
-fn itself_to(table: &Table, spot: Spot, c: char, behind: Pending) -> Pending
-    requires { HasNodes table.now behind }
-    ensures to { pending_of table.now result ≡ characters.itself_to (spot_of spot) c (pending_of table.now behind) }
+/// What is pending after a character as itself, where its bytes leave `after`.
+fn itself_to(table: &Table, spot: Spot, c: char, after: Pending) -> Pending
+    requires { HasNodes table.now after }
+    ensures to { pending_of table.now result ≡ characters.itself_to (spot_of spot) c (pending_of table.now after) }
     ensures nodes { HasNodes table.now result }
 {
     if c == '&' {
@@ -103,7 +103,7 @@ fn itself_to(table: &Table, spot: Spot, c: char, behind: Pending) -> Pending
     if c == '<' && !is_value(spot) {
         return Pending::LessThan;
     }
-    behind
+    after
 }
 
 /// As itself, where it may stand and breaks nothing.
@@ -114,7 +114,7 @@ fn add_as_itself(
     spot: Spot,
     c: char,
     from: State,
-) -> Result<(), Memory>
+) -> Result<(), OutOfMemory>
     requires { HasNodes table.now from.pending }
     ensures { (u : units.Unit) → own_bytes u ≡ encode_utf8 c
         → AddsEdges result table.now u into.old.items into.new.items (map (characters.kept_at (where_of from.at))
@@ -127,8 +127,8 @@ fn add_as_itself(
     let bytes = c.encode_utf8(&mut buffer).as_bytes();
     match run(table, spot, from.pending, bytes) {
         None => Ok(()),
-        Some(behind) => {
-            let to = itself_to(table, spot, c, behind);
+        Some(after) => {
+            let to = itself_to(table, spot, c, after);
             add(into, Piece::Itself, from.at, to)
         }
     }
@@ -144,10 +144,10 @@ fn is_closed(name: &[u8]) -> bool
 }
 
 /// What is pending after a name for one code point.
-#[tactic(auto, unfolding(hm_graph_laws::specs::CharacterEdges::behind_name))]
-fn behind_name(table: &Table, id: NameId) -> Pending
+#[tactic(auto, unfolding(hm_graph_laws::specs::CharacterEdges::after_name))]
+fn after_name(table: &Table, id: NameId) -> Pending
     requires { id < length table.now.entries }
-    ensures to { pending_of table.now result ≡ characters.behind_name (entry_at table.now.entries id).name }
+    ensures to { pending_of table.now result ≡ characters.after_name (entry_at table.now.entries id).name }
     ensures nodes { HasNodes table.now result }
 {
     if is_closed(table.name(id)) {
@@ -158,10 +158,10 @@ fn behind_name(table: &Table, id: NameId) -> Pending
 }
 
 /// What is pending after a name for two code points, the second of which is due.
-#[tactic(auto, unfolding(hm_graph_laws::specs::CharacterEdges::behind_pair))]
-fn behind_pair(table: &Table, id: NameId) -> Pending
+#[tactic(auto, unfolding(hm_graph_laws::specs::CharacterEdges::after_pair))]
+fn after_pair(table: &Table, id: NameId) -> Pending
     requires { id < length table.now.entries }
-    ensures to { pending_of table.now result ≡ characters.behind_pair (entry_at table.now.entries id).name }
+    ensures to { pending_of table.now result ≡ characters.after_pair (entry_at table.now.entries id).name }
     ensures nodes { HasNodes table.now result }
 {
     if is_closed(table.name(id)) {
@@ -171,15 +171,15 @@ fn behind_pair(table: &Table, id: NameId) -> Pending
     Pending::Half { left: Some(node) }
 }
 
-fn behind_by(is_pair: bool, table: &Table, id: NameId) -> Pending
+fn after_by(is_pair: bool, table: &Table, id: NameId) -> Pending
     requires { id < length table.now.entries }
-    ensures to { pending_of table.now result ≡ behind_by is_pair (entry_at table.now.entries id).name }
+    ensures to { pending_of table.now result ≡ after_by is_pair (entry_at table.now.entries id).name }
     ensures nodes { HasNodes table.now result }
 {
     if is_pair {
-        behind_pair(table, id)
+        after_pair(table, id)
     } else {
-        behind_name(table, id)
+        after_name(table, id)
     }
 }
 
@@ -200,12 +200,12 @@ fn add_name(
     c: char,
     second: Option<char>,
     at: Where,
-) -> Result<(), Memory>
+) -> Result<(), OutOfMemory>
     requires { id < length table.now.entries }
     ensures { (u : units.Unit) → AddsEdges result table.now u into.old.items into.new.items (map (characters.kept_at (where_of at))
-        (characters.by_names (behind_by (is_some second)) (c ∷ option_to_list second) (entry_at table.now.entries id ∷ []))) }
+        (characters.by_names (after_by (is_some second)) (c ∷ option_to_list second) (entry_at table.now.entries id ∷ []))) }
 {
-    let to = behind_by(second.is_some(), table, id);
+    let to = after_by(second.is_some(), table, id);
     let there = gives(table, id, c, second);
     add_if(there, into, Piece::Name { id }, at, to)
 }
@@ -217,9 +217,9 @@ fn add_names(
     c: char,
     second: Option<char>,
     at: Where,
-) -> Result<(), Memory>
+) -> Result<(), OutOfMemory>
     ensures { (u : units.Unit) → AddsEdges result table.now u into.old.items into.new.items (map (characters.kept_at (where_of at))
-        (characters.by_names (behind_by (is_some second)) (c ∷ option_to_list second) table.now.entries)) }
+        (characters.by_names (after_by (is_some second)) (c ∷ option_to_list second) table.now.entries)) }
 {
     for id in table.names_for(c) {
         add_name(into, table, *id, c, second, at)?;
@@ -234,7 +234,7 @@ fn add_pairs(
     c: char,
     pair: Option<char>,
     at: Where,
-) -> Result<(), Memory>
+) -> Result<(), OutOfMemory>
     ensures { (u : units.Unit) → AddsEdges result table.now u into.old.items into.new.items (map (characters.kept_at (where_of at))
         (characters.by_pairs table.now.entries c pair)) }
 {
@@ -245,7 +245,7 @@ fn add_pairs(
 }
 
 /// By the best number, without and with a `;`.
-fn add_decimals(into: &mut Vec<Edge>, c: char, at: Where) -> Result<(), Memory>
+fn add_decimals(into: &mut Vec<Edge>, c: char, at: Where) -> Result<(), OutOfMemory>
     ensures { (v : TableView) (u : units.Unit) → AddsEdges result v u into.old.items into.new.items (map (characters.kept_at (where_of at))
         (characters.by_decimal (best_number c))) }
 {
@@ -283,7 +283,7 @@ fn is_shorter_in_hexadecimal(c: char) -> bool
 }
 
 /// In hexadecimal, where that is shorter.
-fn add_hexadecimals(into: &mut Vec<Edge>, c: char, at: Where) -> Result<(), Memory>
+fn add_hexadecimals(into: &mut Vec<Edge>, c: char, at: Where) -> Result<(), OutOfMemory>
     ensures { (v : TableView) (u : units.Unit) → AddsEdges result v u into.old.items into.new.items (map (characters.kept_at (where_of at))
         (characters.by_hexadecimal c)) }
 {
@@ -326,7 +326,7 @@ fn add_references(
     c: char,
     pair: Option<char>,
     at: Where,
-) -> Result<(), Memory>
+) -> Result<(), OutOfMemory>
     ensures { (u : units.Unit) → AddsEdges result table.now u into.old.items into.new.items (map (characters.kept_at (where_of at))
         (characters.by_references table.now.entries c pair)) }
 {
@@ -337,8 +337,8 @@ fn add_references(
 }
 
 /// What is pending after the second code point of a name, where that is due.
-fn behind_half(pending: &Pending) -> Option<Pending>
-    ensures to { (v : TableView) → option_map (pending_of v) result ≡ option_map characters.behind_half (characters.half_of (pending_of v pending.now)) }
+fn after_half(pending: &Pending) -> Option<Pending>
+    ensures to { (v : TableView) → option_map (pending_of v) result ≡ option_map characters.after_half (characters.half_of (pending_of v pending.now)) }
     ensures nodes { (v : TableView) → HasNodes v pending.now → IfSome result (HasNodes v) }
 {
     match *pending {
@@ -357,14 +357,14 @@ fn add_choices(
     c: char,
     pair: Option<char>,
     from: State,
-) -> Result<(), Memory>
+) -> Result<(), OutOfMemory>
     requires { HasNodes table.now from.pending }
     ensures { (u : units.Unit) → own_bytes u ≡ encode_utf8 c
         → AddsEdges result table.now u into.old.items into.new.items (map (characters.kept_at (where_of from.at))
         (characters.choices table.now.entries (rules_with table.now.entries ascii) (spot_of spot) c pair (pending_of table.now from.pending))) }
 {
     let at = from.at;
-    if let Some(to) = behind_half(&from.pending) {
+    if let Some(to) = after_half(&from.pending) {
         return add(into, Piece::Nothing, at, to);
     }
     let refers = may_refer(table, spot, c, &from.pending);
@@ -383,7 +383,7 @@ fn add_outside_edges(
     ascii: bool,
     character: Character,
     from: State,
-) -> Result<(), Memory>
+) -> Result<(), OutOfMemory>
     requires { HasNodes table.now from.pending }
     ensures known { AreOfTable table.now into.old.items → AreOfTable table.now into.new.items }
     ensures edges { (u : units.Unit) (next : Option ℕ) → own_bytes u ≡ encode_utf8 character.c → character.more ≡ is_some next
@@ -408,7 +408,7 @@ pub(crate) fn add_character_edges(
     ascii: bool,
     character: Character,
     from: State,
-) -> Result<(), Memory>
+) -> Result<(), OutOfMemory>
     requires { HasNodes table.now from.pending }
     ensures known { AreOfTable table.now into.old.items → AreOfTable table.now into.new.items }
     ensures edges { (u : units.Unit) (next : Option ℕ) → own_bytes u ≡ encode_utf8 character.c → character.more ≡ is_some next

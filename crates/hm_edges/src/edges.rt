@@ -11,11 +11,11 @@ ghost use Rattle.hm_edges.specs.Pieces.{AreOfTable};
 ghost use Rattle.hm_edges.specs.States.{HasNodes, spot_of, state_of, where_of};
 
 use crate::characters::{Character, add_character_edges};
-use crate::pieces::{Edge, Form, Piece};
+use crate::pieces::{Edge, Piece, Quoting};
 use crate::states::{Pending, Spot, State, Where};
 use crate::steps::may_end;
 use crate::units::Unit;
-use hm_base::{Memory, SpellRules};
+use hm_base::{OutOfMemory, SpellRules};
 use hm_refs::Table;
 
 /// Adds an edge at the end.
@@ -24,7 +24,7 @@ pub(crate) fn add(
     piece: Piece,
     at: Where,
     pending: Pending,
-) -> Result<(), Memory>
+) -> Result<(), OutOfMemory>
     ensures { into.new.items ≡ (if is_ok result then into.old.items ++ record { piece = piece; to = record { at = at; pending = pending } } ∷ [] else into.old.items) }
 {
     let to = State { at, pending };
@@ -39,7 +39,7 @@ pub(crate) fn add_if(
     piece: Piece,
     at: Where,
     pending: Pending,
-) -> Result<(), Memory>
+) -> Result<(), OutOfMemory>
     ensures { into.new.items ≡ (if is_ok result && there then into.old.items ++ record { piece = piece; to = record { at = at; pending = pending } } ∷ [] else into.old.items) }
 {
     if there {
@@ -81,7 +81,7 @@ fn add_start_edges(
     firm: bool,
     closes: bool,
     from: State,
-) -> Result<(), Memory>
+) -> Result<(), OutOfMemory>
     ensures { (v : TableView) (n : List ℕ) → HasNodes v from.pending
         → AddsEdges result v (units.start_tag n omits firm closes) into.old.items into.new.items (tags.start_edges n omits firm closes (state_of v from)) }
 {
@@ -103,8 +103,8 @@ fn add_start_edges(
 }
 
 /// The state after an end tag that is left out.
-fn behind_left_out(loosens: bool, from: State) -> State
-    ensures state { (v : TableView) → state_of v result ≡ tags.behind_left_out loosens (state_of v from) }
+fn after_left_out(loosens: bool, from: State) -> State
+    ensures state { (v : TableView) → state_of v result ≡ tags.after_left_out loosens (state_of v from) }
     ensures nodes { (v : TableView) → HasNodes v from.pending → HasNodes v result.pending }
 {
     if loosens {
@@ -132,36 +132,36 @@ fn add_end_edges(
     omits: bool,
     loosens: bool,
     from: State,
-) -> Result<(), Memory>
+) -> Result<(), OutOfMemory>
     ensures { (v : TableView) (n : List ℕ) → HasNodes v from.pending
         → AddsEdges result v (units.end_tag n omits loosens) into.old.items into.new.items (tags.end_edges n omits loosens (state_of v from)) }
 {
     if is_self_closed(from.at) {
         return add(into, Piece::Nothing, Where::Outside, Pending::Nothing);
     }
-    let to = behind_left_out(loosens, from);
+    let to = after_left_out(loosens, from);
     add_if(omits, into, Piece::Nothing, to.at, to.pending)?;
     add(into, Piece::EndTag, Where::Outside, Pending::Nothing)
 }
 
-fn is_behind_quoted(at: Where) -> bool
-    ensures { result ≡ attributes.is_behind_quoted (where_of at) }
+fn is_after_quoted(at: Where) -> bool
+    ensures { result ≡ attributes.is_after_quoted (where_of at) }
 {
     match at {
-        Where::BehindQuoted => true,
+        Where::AfterQuoted => true,
         _ => false,
     }
 }
 
 /// Whether a space stands before an attribute: always, except after a quote where attributes may touch.
 fn has_gap(tight: bool, at: Where) -> bool
-    ensures { result ≡ not (tight && attributes.is_behind_quoted (where_of at)) }
+    ensures { result ≡ not (tight && attributes.is_after_quoted (where_of at)) }
 {
-    !(tight && is_behind_quoted(at))
+    !(tight && is_after_quoted(at))
 }
 
 /// An attribute with an empty value.
-fn add_bare_edges(into: &mut Vec<Edge>, tight: bool, from: State) -> Result<(), Memory>
+fn add_bare_edges(into: &mut Vec<Edge>, tight: bool, from: State) -> Result<(), OutOfMemory>
     ensures { (v : TableView) (n : List ℕ)
         → AddsEdges result v (units.bare_attribute n) into.old.items into.new.items (attributes.bare_edges tight n (state_of v from)) }
 {
@@ -170,9 +170,9 @@ fn add_bare_edges(into: &mut Vec<Edge>, tight: bool, from: State) -> Result<(), 
         into,
         Piece::Attribute {
             gap,
-            form: Form::Bare,
+            form: Quoting::Bare,
         },
-        Where::BehindName,
+        Where::AfterName,
         Pending::Nothing,
     )
 }
@@ -183,7 +183,7 @@ fn add_opening_edges(
     tight: bool,
     unquote: bool,
     from: State,
-) -> Result<(), Memory>
+) -> Result<(), OutOfMemory>
     ensures { (v : TableView) (n value : List ℕ)
         → AddsEdges result v (units.attribute_name n value) into.old.items into.new.items (attributes.opening_edges tight unquote n (state_of v from)) }
 {
@@ -193,7 +193,7 @@ fn add_opening_edges(
         into,
         Piece::Attribute {
             gap,
-            form: Form::Unquoted,
+            form: Quoting::Unquoted,
         },
         Where::InUnquoted,
         Pending::Nothing,
@@ -202,7 +202,7 @@ fn add_opening_edges(
         into,
         Piece::Attribute {
             gap,
-            form: Form::Double,
+            form: Quoting::Double,
         },
         Where::InDouble,
         Pending::Nothing,
@@ -211,7 +211,7 @@ fn add_opening_edges(
         into,
         Piece::Attribute {
             gap,
-            form: Form::Single,
+            form: Quoting::Single,
         },
         Where::InSingle,
         Pending::Nothing,
@@ -230,26 +230,21 @@ pub(crate) fn value_spot(at: Where) -> Spot
 }
 
 /// What closes a value.
-fn add_closed(into: &mut Vec<Edge>, at: Where) -> Result<(), Memory>
+fn add_closed(into: &mut Vec<Edge>, at: Where) -> Result<(), OutOfMemory>
     ensures { (v : TableView) → AddsEdges result v units.attribute_end into.old.items into.new.items (attributes.closed_at (where_of at)) }
 {
     match at {
-        Where::InUnquoted => add(
-            into,
-            Piece::Nothing,
-            Where::BehindUnquoted,
-            Pending::Nothing,
-        ),
+        Where::InUnquoted => add(into, Piece::Nothing, Where::AfterUnquoted, Pending::Nothing),
         Where::InDouble => add(
             into,
             Piece::Quote { double: true },
-            Where::BehindQuoted,
+            Where::AfterQuoted,
             Pending::Nothing,
         ),
         Where::InSingle => add(
             into,
             Piece::Quote { double: false },
-            Where::BehindQuoted,
+            Where::AfterQuoted,
             Pending::Nothing,
         ),
         _ => Ok(()),
@@ -257,7 +252,7 @@ fn add_closed(into: &mut Vec<Edge>, at: Where) -> Result<(), Memory>
 }
 
 /// What closes a value, where it may end.
-fn add_closing_edges(into: &mut Vec<Edge>, table: &Table, from: State) -> Result<(), Memory>
+fn add_closing_edges(into: &mut Vec<Edge>, table: &Table, from: State) -> Result<(), OutOfMemory>
     requires { HasNodes table.now from.pending }
     ensures { AddsEdges result table.now units.attribute_end into.old.items into.new.items (attributes.closing_edges table.now.entries (state_of table.now from)) }
 {
@@ -268,17 +263,17 @@ fn add_closing_edges(into: &mut Vec<Edge>, table: &Table, from: State) -> Result
     }
 }
 
-fn is_behind_unquoted(at: Where) -> bool
-    ensures { result ≡ attributes.is_behind_unquoted (where_of at) }
+fn is_after_unquoted(at: Where) -> bool
+    ensures { result ≡ attributes.is_after_unquoted (where_of at) }
 {
     match at {
-        Where::BehindUnquoted => true,
+        Where::AfterUnquoted => true,
         _ => false,
     }
 }
 
 /// `>`, and where the tag may close itself `/>`, which stands apart from a value without quotes.
-fn add_close_edges(into: &mut Vec<Edge>, closes: bool, from: State) -> Result<(), Memory>
+fn add_close_edges(into: &mut Vec<Edge>, closes: bool, from: State) -> Result<(), OutOfMemory>
     ensures { (v : TableView) → AddsEdges result v (units.tag_close closes) into.old.items into.new.items (attributes.close_edges closes (state_of v from)) }
 {
     add(
@@ -290,7 +285,7 @@ fn add_close_edges(into: &mut Vec<Edge>, closes: bool, from: State) -> Result<()
         Where::Outside,
         Pending::Nothing,
     )?;
-    let space = is_behind_unquoted(from.at);
+    let space = is_after_unquoted(from.at);
     add_if(
         closes,
         into,
@@ -312,7 +307,7 @@ pub fn find_edges(
     unit: Unit,
     from: State,
     into: &mut Vec<Edge>,
-) -> Result<(), Memory>
+) -> Result<(), OutOfMemory>
     requires { HasNodes table.now from.pending }
     ensures edges { OnOk result (AreEdges table.now rules unit from into.new.items) }
     ensures front { AreFront table.now rules unit from into.new.items }
@@ -327,7 +322,7 @@ pub fn find_edges(
             firm,
             closes,
         } => add_start_edges(into, omits, firm, closes, from),
-        Unit::TagName { len: _ } => add(into, Piece::TagName, Where::BehindName, Pending::Nothing),
+        Unit::TagName { len: _ } => add(into, Piece::TagName, Where::AfterName, Pending::Nothing),
         Unit::BareAttribute { len: _ } => add_bare_edges(into, rules.tight, from),
         Unit::AttributeName { len: _, needs: _ } => {
             add_opening_edges(into, rules.tight, rules.unquote, from)

@@ -6,7 +6,7 @@ ghost use Rattle.hm_graph_laws.specs.Units as units;
 ghost use Rattle.hm_edges.specs.Pieces.{HasName, own_bytes, piece_bytes, with_opening};
 ghost use Rattle.hm_edges.specs.Units.{StandsFor};
 
-use crate::pieces::{Form, Piece};
+use crate::pieces::{Piece, Quoting};
 use crate::units::Unit;
 use hm_refs::Table;
 use hm_refs::laws::every_table;
@@ -44,15 +44,15 @@ fn own_len(unit: Unit) -> u64
 }
 
 /// How many bytes open a value after the name.
-fn opening_len(form: Form) -> u64
+fn opening_len(form: Quoting) -> u64
     ensures value { (n : List ℕ) → length (with_opening form n) ≡ length n + result }
     ensures few { result ≤ 2 }
 {
     match form {
-        Form::Bare => 0,
-        Form::Unquoted => 1,
-        Form::Double => 2,
-        Form::Single => 2,
+        Quoting::Bare => 0,
+        Quoting::Unquoted => 1,
+        Quoting::Double => 2,
+        Quoting::Single => 2,
     }
 }
 

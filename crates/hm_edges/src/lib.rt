@@ -13,7 +13,7 @@ mod units;
 
 pub use edges::find_edges;
 pub use lengths::piece_len;
-pub use pieces::{Edge, Form, Piece};
+pub use pieces::{Edge, Piece, Quoting};
 pub use states::{Pending, Spot, State, Where};
 pub use steps::{may_end, step};
 pub use units::{Need, Needs, TextKind, Unit};

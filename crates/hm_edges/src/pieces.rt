@@ -5,7 +5,7 @@ use hm_refs::NameId;
 
 /// How a value is written (HTML Standard, #attributes-2).
 #[derive(Clone, Copy, Debug, PartialEq, Eq)]
-pub enum Form {
+pub enum Quoting {
     Bare,
     Unquoted,
     Double,
@@ -23,7 +23,7 @@ pub enum Piece {
     /// `<` and the name.
     TagName,
     /// An attribute, with a space before it, up to what opens its value.
-    Attribute { gap: bool, form: Form },
+    Attribute { gap: bool, form: Quoting },
     /// The quote that closes a value.
     Quote { double: bool },
     /// `>`, with a `/` before it where the tag closes itself, and a space where that has to stand apart.

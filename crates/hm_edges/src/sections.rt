@@ -14,7 +14,7 @@ use crate::edges::{add, add_if};
 use crate::pieces::{Edge, Piece};
 use crate::states::{Pending, State, Where};
 use crate::units::TextKind;
-use hm_base::Memory;
+use hm_base::OutOfMemory;
 use hm_refs::best_number;
 
 /// Whether the character may be written as itself at all: it is no CR, and where all is to be ASCII it is, or has no number.
@@ -69,8 +69,8 @@ pub(crate) fn may_open(kind: TextKind, from: &State) -> bool
 }
 
 /// What is pending after a character in a section.
-fn in_section_behind(c: char, pending: Pending) -> Pending
-    ensures to { (v : TableView) → pending_of v result ≡ characters.in_section_behind c (pending_of v pending) }
+fn in_section_after(c: char, pending: Pending) -> Pending
+    ensures to { (v : TableView) → pending_of v result ≡ characters.in_section_after c (pending_of v pending) }
     ensures nodes { (v : TableView) → HasNodes v result }
 {
     if c != ']' {
@@ -99,11 +99,11 @@ fn add_going_on(
     c: char,
     more: bool,
     pending: Pending,
-) -> Result<(), Memory>
+) -> Result<(), OutOfMemory>
     ensures { (v : TableView) (u : units.Unit) (next : Option ℕ) → own_bytes u ≡ encode_utf8 c → more ≡ is_some next
         → AddsEdges result v u into.old.items into.new.items (characters.section_edges_by next (if opens then codes "<![CDATA[" else []) c (pending_of v pending)) }
 {
-    let to = in_section_behind(c, pending);
+    let to = in_section_after(c, pending);
     add_if(
         more,
         into,
@@ -132,7 +132,7 @@ pub(crate) fn add_section_edges(
     c: char,
     more: bool,
     pending: Pending,
-) -> Result<(), Memory>
+) -> Result<(), OutOfMemory>
     ensures { (v : TableView) (u : units.Unit) (next : Option ℕ) → own_bytes u ≡ encode_utf8 c → more ≡ is_some next
         → AddsEdges result v u into.old.items into.new.items (characters.section_edges ascii c next (pending_of v pending)) }
 {
@@ -149,7 +149,7 @@ pub(crate) fn add_opened_sections(
     ascii: bool,
     c: char,
     more: bool,
-) -> Result<(), Memory>
+) -> Result<(), OutOfMemory>
     ensures { (v : TableView) (u : units.Unit) (next : Option ℕ) → own_bytes u ≡ encode_utf8 c → more ≡ is_some next
         → AddsEdges result v u into.old.items into.new.items (if spots.is_writable ascii c then characters.section_edges_by next (codes "<![CDATA[") c states.nothing else []) }
 {

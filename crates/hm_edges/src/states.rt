@@ -12,11 +12,11 @@ pub enum Where {
     /// After a start tag of SVG with a `/`, which stands for the end tag as well.
     SelfClosed,
     /// In a tag, after its name or an attribute without value.
-    BehindName,
+    AfterName,
     /// In a tag, after a value without quotes.
-    BehindUnquoted,
+    AfterUnquoted,
     /// In a tag, after a value in quotes.
-    BehindQuoted,
+    AfterQuoted,
     /// In a value without quotes.
     InUnquoted,
     /// In a value in double quotes.

@@ -94,7 +94,7 @@ fn is_x(byte: u8) -> bool
 }
 
 /// After `&#`.
-fn behind_hash(byte: u8) -> Option<Pending>
+fn after_hash(byte: u8) -> Option<Pending>
     ensures { (v : TableView) → (option_map (pending_of v) result ≡ steps.step [] spots.text states.hash byte) × IfSome result (HasNodes v) }
 {
     if is_x(byte) {
@@ -132,7 +132,7 @@ fn has_child(table: &Table, node: Node, byte: u8) -> bool
 }
 
 /// Whether the byte and those of the node are a name.
-fn is_name_behind(table: &Table, node: Node, byte: u8) -> bool
+fn is_name_after(table: &Table, node: Node, byte: u8) -> bool
     requires { IsNode table.now node }
     ensures { result ≡ is_name table.now.entries (front_at table.now node ++ byte ∷ []) }
 {
@@ -175,17 +175,17 @@ fn ampersand_in_text(table: &Table, node: Node, byte: u8) -> Option<Pending>
     if is_hash_at_root(table, node, byte) {
         return Some(Pending::Hash);
     }
-    if is_name_behind(table, node, byte) {
+    if is_name_after(table, node, byte) {
         return None;
     }
     onto_ampersand(table, node, byte)
 }
 
-fn is_closed_name_behind(table: &Table, node: Node, byte: u8) -> bool
+fn is_closed_name_after(table: &Table, node: Node, byte: u8) -> bool
     requires { IsNode table.now node }
     ensures { result ≡ (is_name table.now.entries (front_at table.now node ++ byte ∷ []) && refs.is_semicolon byte) }
 {
-    is_name_behind(table, node, byte) && byte == b';'
+    is_name_after(table, node, byte) && byte == b';'
 }
 
 #[tactic(auto, unfolding(hm_graph_laws::specs::Steps::ampersand_in_value))]
@@ -203,7 +203,7 @@ fn ampersand_in_value(table: &Table, node: Node, byte: u8) -> Option<Pending>
         }
         return None;
     }
-    if is_closed_name_behind(table, node, byte) {
+    if is_closed_name_after(table, node, byte) {
         return None;
     }
     onto_ampersand(table, node, byte)
@@ -215,7 +215,7 @@ fn named_in_text(table: &Table, node: Node, byte: u8) -> Option<Pending>
     ensures step { option_map (pending_of table.now) result ≡ steps.named_in_text table.now.entries (front_at table.now node) byte }
     ensures nodes { IfSome result (HasNodes table.now) }
 {
-    if is_name_behind(table, node, byte) {
+    if is_name_after(table, node, byte) {
         return None;
     }
     onto_named(table, node, byte)
@@ -253,7 +253,7 @@ pub fn step(pending: Pending, table: &Table, spot: Spot, byte: u8) -> Option<Pen
     match pending {
         Pending::Nothing => Some(Pending::Nothing),
         Pending::LessThan => unless(opens(spot, byte)),
-        Pending::Hash => behind_hash(byte),
+        Pending::Hash => after_hash(byte),
         Pending::HashX => unless(is_digit(byte, 16)),
         Pending::Decimal => unless(goes_on_decimal(byte)),
         Pending::Hexadecimal => unless(goes_on_hexadecimal(byte)),

@@ -1,32 +1,32 @@
 -- A walk that is settled part by part keeps the rules of settled walks.
 use Rattle.std.proofs.Common.{◌≡◌, ℕ, Bool, true, false, ◌||◌, List, [], ◌∷◌, bytes_eq, refl}
 use Rattle.std.proofs.lemmas.Bool.{and_from}
-use Rattle.hm_base.specs.Walks.{Attribute, Event, doctype, start, text, comment, end, Element, same_flag, is_same_element, path_behind, ends_match}
+use Rattle.hm_base.specs.Walks.{Attribute, Event, doctype, start, text, comment, end, Element, same_flag, is_same_element, path_after_event, ends_match}
 use Rattle.hm_elements.specs.Names.{is_among, html, head, body, svg}
 use Rattle.hm_elements.specs.Tables.{roots, voids, raw_names, rcdata_names, is_root, is_void, is_raw, is_rcdata, holds_text}
 use Rattle.hm_elements.specs.Paths.{html_element, is_in_svg, is_in_text, is_deep}
 use Rattle.hm_elements.specs.Settled.{is_html, Top, no_doctype, no_html, all_there, has_top, Frame, no_head, no_body, has_body, starts_root, has_frame, all_events, nests, is_svg_in_place, closes_void, is_text_in_place, is_raw_text, is_comment_in_form, has_attributes_in_form, is_not_deep, is_event_utf8, SettledFrom, Settled}
-use Rattle.hm_elements.specs.Places.{RootAllowed, html_path, SettledLast, SettledBehindBody, SettledInside, SettledBody, SettledBeforeBody, SettledHead, SettledBeforeHead, SettledBeforeHtml, SettledPage}
+use Rattle.hm_elements.specs.Places.{RootAllowed, html_path, SettledLast, SettledAfterBody, SettledInside, SettledBody, SettledBeforeBody, SettledHead, SettledBeforeHead, SettledBeforeHtml, SettledPage}
 use Rattle.hm_elements.proofs.TableTools.{eq_self}
 use Rattle.hm_elements.proofs.Events.{EventStands, is_same, comment_stands, text_stands, start_stands, start_is_no_root}
 use Rattle.hm_elements.proofs.Chain.{Inside, at_root, deeper, inside_top, inside_frame, no_root_is_other, html_is_itself, head_is_root, body_is_root}
 
 -- an event before what is settled
-put_event : (t t' : Top) (f f' : Frame) (path : List Element) (e : Event) (w : List Event) → EventStands path e w → SettledFrom t' f' (path_behind path e) w → ends_match path (e ∷ w) ≡ true → has_top t path (e ∷ w) ≡ true → has_frame f path (e ∷ w) ≡ true → SettledFrom t f path (e ∷ w)
+put_event : (t t' : Top) (f f' : Frame) (path : List Element) (e : Event) (w : List Event) → EventStands path e w → SettledFrom t' f' (path_after_event path e) w → ends_match path (e ∷ w) ≡ true → has_top t path (e ∷ w) ≡ true → has_frame f path (e ∷ w) ≡ true → SettledFrom t f path (e ∷ w)
 put_event t t' f f' path e w st s ends top frame = record {
   ends = ends;
   closed = s.closed;
   top = top;
   frame = frame;
-  nesting = and_from (nests path e w) (all_events nests (path_behind path e) w) st.nesting s.nesting;
-  svg = and_from (is_svg_in_place path e w) (all_events is_svg_in_place (path_behind path e) w) st.svg s.svg;
-  voids = and_from (closes_void path e w) (all_events closes_void (path_behind path e) w) st.voids s.voids;
-  texts = and_from (is_text_in_place path e w) (all_events is_text_in_place (path_behind path e) w) st.texts s.texts;
-  raw_texts = and_from (is_raw_text path e w) (all_events is_raw_text (path_behind path e) w) st.raw_texts s.raw_texts;
-  comments = and_from (is_comment_in_form path e w) (all_events is_comment_in_form (path_behind path e) w) st.comments s.comments;
-  attributes = and_from (has_attributes_in_form path e w) (all_events has_attributes_in_form (path_behind path e) w) st.attributes s.attributes;
-  depth = and_from (is_not_deep path e w) (all_events is_not_deep (path_behind path e) w) st.depth s.depth;
-  utf8 = and_from (is_event_utf8 path e w) (all_events is_event_utf8 (path_behind path e) w) st.utf8 s.utf8;
+  nesting = and_from (nests path e w) (all_events nests (path_after_event path e) w) st.nesting s.nesting;
+  svg = and_from (is_svg_in_place path e w) (all_events is_svg_in_place (path_after_event path e) w) st.svg s.svg;
+  voids = and_from (closes_void path e w) (all_events closes_void (path_after_event path e) w) st.voids s.voids;
+  texts = and_from (is_text_in_place path e w) (all_events is_text_in_place (path_after_event path e) w) st.texts s.texts;
+  raw_texts = and_from (is_raw_text path e w) (all_events is_raw_text (path_after_event path e) w) st.raw_texts s.raw_texts;
+  comments = and_from (is_comment_in_form path e w) (all_events is_comment_in_form (path_after_event path e) w) st.comments s.comments;
+  attributes = and_from (has_attributes_in_form path e w) (all_events has_attributes_in_form (path_after_event path e) w) st.attributes s.attributes;
+  depth = and_from (is_not_deep path e w) (all_events is_not_deep (path_after_event path e) w) st.depth s.depth;
+  utf8 = and_from (is_event_utf8 path e w) (all_events is_event_utf8 (path_after_event path e) w) st.utf8 s.utf8;
 }
 
 pub end_stands : (path : List Element) (n : List ℕ) (foreign : Bool) (w : List Event) → EventStands path (end n foreign) w
@@ -85,15 +85,15 @@ gather_last f (start n foreign attributes ∷ w) h = absurd h
 gather_last f (text x raw ∷ w) h = absurd h
 gather_last f (end n foreign ∷ w) h = absurd h
 
-gather_behind_body : (w : List Event) → SettledBehindBody w → SettledFrom all_there has_body html_path w
-gather_behind_body [] h = absurd h
-gather_behind_body (comment x ∷ w) h = let s = gather_behind_body w h.1 in put_event all_there all_there has_body has_body html_path (comment x) w (comment_stands html_path x w h.0) s s.ends s.top s.frame
-gather_behind_body (end n foreign ∷ w) h =
+gather_after_body : (w : List Event) → SettledAfterBody w → SettledFrom all_there has_body html_path w
+gather_after_body [] h = absurd h
+gather_after_body (comment x ∷ w) h = let s = gather_after_body w h.1 in put_event all_there all_there has_body has_body html_path (comment x) w (comment_stands html_path x w h.0) s s.ends s.top s.frame
+gather_after_body (end n foreign ∷ w) h =
     let s = gather_last has_body w h.2 in
     put_event all_there all_there has_body has_body html_path (end n foreign) w (end_stands html_path n foreign w) s (rw (h.0, h.1) s.ends) s.top s.frame
-gather_behind_body (doctype legacy ∷ w) h = absurd h
-gather_behind_body (start n foreign attributes ∷ w) h = absurd h
-gather_behind_body (text x raw ∷ w) h = absurd h
+gather_after_body (doctype legacy ∷ w) h = absurd h
+gather_after_body (start n foreign attributes ∷ w) h = absurd h
+gather_after_body (text x raw ∷ w) h = absurd h
 
 gather_end : (root : List ℕ) (f : Frame) (after : List Event → Type 0) → ((w : List Event) → after w → SettledFrom all_there f html_path w)
     → (path : List Element) → Inside root path → (n : List ℕ) (foreign : Bool) (w : List Event)
@@ -125,7 +125,7 @@ gather_inside root known f after more (start n foreign attributes ∷ w) path i 
 gather_inside root known f after more (end n foreign ∷ w) path i h = gather_end root f after more path i n foreign w (λ path' i' h'. gather_inside root known f after more w path' i' h') h
 
 gather_body : (w : List Event) → SettledBody (html_element body ∷ html_path) w → SettledFrom all_there has_body (html_element body ∷ html_path) w
-gather_body w h = gather_inside body body_is_root has_body SettledBehindBody gather_behind_body w (html_element body ∷ html_path) at_root h
+gather_body w h = gather_inside body body_is_root has_body SettledAfterBody gather_after_body w (html_element body ∷ html_path) at_root h
 
 -- the start of a root
 itself : (wanted n : List ℕ) (foreign : Bool) (attributes : List Attribute) → RootAllowed wanted n foreign attributes → RootAllowed wanted wanted false attributes

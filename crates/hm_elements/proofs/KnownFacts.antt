@@ -35,8 +35,8 @@ row_tells n (k ∷ ks) right among =
     by (bytes_eq k.0.now n) refl among here (row_tells n ks there)
   where
     by : (b : Bool) → bytes_eq k.0.now n ≡ b → b || is_among n (names_of ks) ≡ true → kind k.0.now ≡ k.1 → (is_among n (names_of ks) ≡ true → kind_in ks n ≡ kind n) → cond b k.1 (kind_in ks n) ≡ kind n
-    by true e among' is behind = sym is ∙ ap kind (same_bytes k.0.now n e)
-    by false e among' is behind = behind among'
+    by true e among' is after = sym is ∙ ap kind (same_bytes k.0.now n e)
+    by false e among' is after = after among'
 
 -- without one the name is of no kind
 no_row_tells : (n : List ℕ) (ks : List Known) → is_among n (names_of ks) ≡ false → kind_in ks n ≡ other
@@ -45,8 +45,8 @@ no_row_tells n [] none = refl
 no_row_tells n (k ∷ ks) none = by (bytes_eq k.0.now n) none (no_row_tells n ks)
   where
     by : (b : Bool) → b || is_among n (names_of ks) ≡ false → (is_among n (names_of ks) ≡ false → kind_in ks n ≡ other) → cond b k.1 (kind_in ks n) ≡ other
-    by true e behind = cc
-    by false e behind = behind e
+    by true e after = cc
+    by false e after = after e
 
 -- the rows have each listed name that begins with the byte
 abbrev pub has_all : ℕ → List Known → Bool

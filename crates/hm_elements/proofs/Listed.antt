@@ -6,7 +6,7 @@ use Rattle.hm_elements.specs.declared.class.Class.TheVariants.{Ordinary}
 use Rattle.hm_elements.specs.Kinds.{kind, has_row}
 use Rattle.hm_elements.specs.KnownNames.{other}
 use Rattle.hm_elements.specs.Names.{words, is_among, PairRow, find, p, table, colgroup, script}
-use Rattle.hm_elements.specs.Nesting.{without, children, own_parents, bound_names, yield_rows, end_rows, yields, ends_with}
+use Rattle.hm_elements.specs.Nesting.{without, children, own_parents, bound_names, yield_rows, end_rows, is_closed_by_start, ends_with}
 use Rattle.hm_elements.specs.Tables.{roots, voids, rcdata_names, raw_names, refused_names, headings, sections, parts, blocks, paragraph_ends, boundaries, block_names, unnested_names, is_root, is_void, is_rcdata, is_raw, is_refused, is_heading, is_unnested, closes_p, is_boundary, is_block, is_table_part, class_of}
 use Rattle.hm_elements.proofs.TableTools.{not_among, none_among}
 
@@ -105,13 +105,13 @@ no_ends : (n : List ℕ) → is_listed n ≡ false → has_row end_rows n ≡ fa
 unfolding end_rows is_among
 no_ends n none = rw (no_row n end_rows none refl) refl
 
-not_before_p : (n : List ℕ) → is_listed n ≡ false → yields p n ≡ false
-unfolding yields yield_rows paragraph_ends blocks headings parts is_among
+not_before_p : (n : List ℕ) → is_listed n ≡ false → is_closed_by_start p n ≡ false
+unfolding is_closed_by_start yield_rows paragraph_ends blocks headings parts is_among
 not_before_p n none = unlisted n (paragraph_ends ++ words "rt rp" ++ parts) none refl
 
-not_behind_p : (n : List ℕ) → is_listed n ≡ false → ends_with p n ≡ false
+not_after_p : (n : List ℕ) → is_listed n ≡ false → ends_with p n ≡ false
 unfolding ends_with end_rows blocks headings sections is_among
-not_behind_p n none = unlisted n (without (words "hr p") blocks ++ words "button li dd dt object td th caption tr" ++ sections) none refl
+not_after_p n none = unlisted n (without (words "hr p") blocks ++ words "button li dd dt object td th caption tr" ++ sections) none refl
 
 no_colgroup : (n : List ℕ) → is_listed n ≡ false → bytes_eq n colgroup ≡ false
 unfolding is_among
@@ -119,4 +119,4 @@ no_colgroup n none = not_among n colgroup listed none refl
 
 -- a name that isn't listed is of no kind
 pub unlisted_kind : (n : List ℕ) → is_listed n ≡ false → kind n ≡ other
-unlisted_kind n none = rw (no_class n none, no_heading n none, not_unnested n none, closes_no_p n none, no_boundary n none, no_block n none, no_colgroup n none, no_yields n none, not_before_p n none, no_ends n none, not_behind_p n none, no_children n none, no_parents n none, not_bound n none) refl
+unlisted_kind n none = rw (no_class n none, no_heading n none, not_unnested n none, closes_no_p n none, no_boundary n none, no_block n none, no_colgroup n none, no_yields n none, not_before_p n none, no_ends n none, not_after_p n none, no_children n none, no_parents n none, not_bound n none) refl

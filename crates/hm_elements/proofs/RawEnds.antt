@@ -8,7 +8,7 @@ use Rattle.hm_elements.specs.Settled.{raw_text_end, end_tag}
 use Rattle.hm_elements.proofs.TableTools.{same_bytes, entry_passes}
 use Rattle.hm_base.specs.Bytes.{is_space, lower, strip, strip_word}
 use Rattle.hm_base.specs.Forms.{has_byte}
-use Rattle.hm_base.specs.RawText.{is_name_end, is_found, is_found_whole, begins_end_tag, place_from, raw_end, Mark, closes_script, mark_at, with_mark, marks_from, ScriptState, unescaped, escaped, double_escaped, state_behind, ends_script, first_end, script_end}
+use Rattle.hm_base.specs.RawText.{is_name_end, is_found, is_found_whole, begins_end_tag, place_from, raw_end, Mark, closes_script, mark_at, with_mark, marks_from, ScriptState, unescaped, escaped, double_escaped, state_after, ends_script, first_end, script_end}
 
 same_if_found : (b : Bool) (p q : Option (List ℕ)) → is_found p ≡ is_found q → is_found (cond b p None) ≡ is_found (cond b q None)
 same_if_found true p q h = h
@@ -114,7 +114,7 @@ script_kept (c ∷ s) st i k y at h tag =
     by_mark : (o : Option Mark) → ((st' : ScriptState) → first_end st' (marks_from (suc i) (s ++ 60 ∷ script_rest)) ≡ Some k → first_end st' (marks_from (suc i) (s ++ 60 ∷ y)) ≡ Some k)
         → first_end st (with_mark o i (marks_from (suc i) (s ++ 60 ∷ script_rest))) ≡ Some k → first_end st (with_mark o i (marks_from (suc i) (s ++ 60 ∷ y))) ≡ Some k
     by_mark None rest h = rest st h
-    by_mark (Some m) rest h = by_end (ends_script st m) (state_behind st m) (rest (state_behind st m)) h
+    by_mark (Some m) rest h = by_end (ends_script st m) (state_after st m) (rest (state_after st m)) h
 
     by : (o : Option Mark) → mark_at (c ∷ (s ++ 60 ∷ script_rest)) ≡ o → ((st' : ScriptState) → first_end st' (marks_from (suc i) (s ++ 60 ∷ script_rest)) ≡ Some k → first_end st' (marks_from (suc i) (s ++ 60 ∷ y)) ≡ Some k)
         → first_end st (with_mark o i (marks_from (suc i) (s ++ 60 ∷ script_rest))) ≡ Some k → first_end st (with_mark (mark_at (c ∷ (s ++ 60 ∷ y))) i (marks_from (suc i) (s ++ 60 ∷ y))) ≡ Some k

@@ -7,8 +7,8 @@ use Rattle.hm_base.specs.Walks.{Element}
 use Rattle.hm_base.specs.declared.limits.TheConstants.{DEPTH_LIMIT}
 use Rattle.hm_elements.specs.Names.{words, is_among, find, is_pair, head, table, tbody, tr, col, colgroup, script, svg}
 use Rattle.hm_elements.specs.Tables.{is_raw, is_rcdata, holds_text, roots, voids, rcdata_names, raw_names, refused_names, headings, sections, parts, blocks, paragraph_ends, unnested_names, is_root, is_void, is_refused, is_section, is_heading, is_unnested, closes_p}
-use Rattle.hm_elements.specs.Nesting.{children, noscript_children, own_parents, bound_names, may_stand, yield_rows, yields, end_rows, ends_with, made_under}
-use Rattle.hm_elements.specs.Omission.{start_rows, start_goes_before}
+use Rattle.hm_elements.specs.Nesting.{children, noscript_children, own_parents, bound_names, may_stand, yield_rows, is_closed_by_start, end_rows, ends_with, made_under}
+use Rattle.hm_elements.specs.Omission.{start_rows, start_tag_optional_before}
 use Rattle.hm_elements.specs.Paths.{is_block_in_p, is_nested, is_deep}
 use Rattle.hm_elements.specs.Laws.{ParentIs, HoldsMore, StartIsMade, SvgIsPlain}
 use Rattle.hm_elements.proofs.TableTools.{same_bytes, each_pair, pair_passes, HoldsInTables, stands_passes, no_row, none_among, no_head, second_of}
@@ -134,8 +134,8 @@ both_names : (n k a b : List ℕ) → bytes_eq n a && bytes_eq k b ≡ true → 
 both_names n k a b h = let two = and_parts (bytes_eq n a) (bytes_eq k b) h in (same_bytes n a two.0, same_bytes k b two.1)
 
 -- which start tags may be left out before which
-pub start_cases : (n k : List ℕ) → start_goes_before n k ≡ true → (n ≡ colgroup) × (k ≡ col) ⊎ (n ≡ tbody) × (k ≡ tr)
-unfolding start_goes_before
+pub start_cases : (n k : List ℕ) → start_tag_optional_before n k ≡ true → (n ≡ colgroup) × (k ≡ col) ⊎ (n ≡ tbody) × (k ≡ tr)
+unfolding start_tag_optional_before
 start_cases n k h =
     let e : is_start_pair n k ≡ true = pair_passes is_start_pair n k start_rows start_pairs h in
     elim (or_cases (bytes_eq n colgroup && bytes_eq k col) (bytes_eq n tbody && bytes_eq k tr) e) [
@@ -144,14 +144,14 @@ start_cases n k h =
     ]
 
 made_col : (t : List ℕ) → t ≡ table → StartIsMade colgroup col t
-unfolding made_under yields yield_rows is_among start_goes_before start_rows is_block_in_p is_nested closes_p paragraph_ends blocks headings is_unnested unnested_names is_heading
+unfolding made_under is_closed_by_start yield_rows is_among start_tag_optional_before start_rows is_block_in_p is_nested closes_p paragraph_ends blocks headings is_unnested unnested_names is_heading
 made_col t e = record { in_table = e; makes = rw e refl; kept = rw e refl; kept_inside = refl; last = λ l. refl; no_block_in_p = λ path. refl; not_nested = λ path. refl }
 
 made_tr : (t : List ℕ) → t ≡ table → StartIsMade tbody tr t
-unfolding made_under yields yield_rows parts is_among start_goes_before start_rows is_block_in_p is_nested closes_p paragraph_ends blocks headings is_unnested unnested_names is_heading
+unfolding made_under is_closed_by_start yield_rows parts is_among start_tag_optional_before start_rows is_block_in_p is_nested closes_p paragraph_ends blocks headings is_unnested unnested_names is_heading
 made_tr t e = record { in_table = e; makes = rw e refl; kept = rw e refl; kept_inside = refl; last = λ l. refl; no_block_in_p = λ path. refl; not_nested = λ path. refl }
 
-pub start_is_made : (n k t : List ℕ) (g : Option (List ℕ)) → may_stand n t g ≡ true → start_goes_before n k ≡ true → StartIsMade n k t
+pub start_is_made : (n k t : List ℕ) (g : Option (List ℕ)) → may_stand n t g ≡ true → start_tag_optional_before n k ≡ true → StartIsMade n k t
 unfolding is_among
 start_is_made n k t g h before =
     elim (start_cases n k before) [
@@ -171,8 +171,8 @@ no_svg_in_colgroup : (g : Option (List ℕ)) → may_stand svg colgroup g ≡ fa
 unfolding may_stand children sections rcdata_names raw_names voids is_among
 no_svg_in_colgroup g = refl
 
-pub svg_is_kept : (t : List ℕ) (g : Option (List ℕ)) → may_stand svg t g ≡ true → yields t svg ≡ false
-unfolding yields
+pub svg_is_kept : (t : List ℕ) (g : Option (List ℕ)) → may_stand svg t g ≡ true → is_closed_by_start t svg ≡ false
+unfolding is_closed_by_start
 svg_is_kept t g h = by_colgroup (bytes_eq t colgroup) refl
   where
     never : bytes_eq t colgroup ≡ true → ⊥

@@ -5,8 +5,8 @@ use Rattle.std.specs.Option.{is_some}
 use Rattle.std.proofs.lemmas.Bool.{and_parts, not-true, false_from_ne_true, both_ways}
 use Rattle.hm_elements.specs.Names.{is_among, find, is_among_found, is_pair, body, p, option, table, tbody, tr, col, colgroup}
 use Rattle.hm_elements.specs.Tables.{voids, rcdata_names, raw_names, headings, sections, parts, blocks, paragraph_ends, is_section, is_void, is_raw, is_rcdata, holds_text}
-use Rattle.hm_elements.specs.Nesting.{children, noscript_children, own_parents, bound_names, may_stand, yield_rows, yields, end_rows, ends_with}
-use Rattle.hm_elements.specs.Omission.{before_rows, goes_before, up_names, up_of_p, goes_up, start_goes_before, bars_start}
+use Rattle.hm_elements.specs.Nesting.{children, noscript_children, own_parents, bound_names, may_stand, yield_rows, is_closed_by_start, end_rows, ends_with}
+use Rattle.hm_elements.specs.Omission.{before_rows, end_tag_optional_before, up_names, up_of_p, end_tag_optional_in, start_tag_optional_before, start_tag_required_after}
 use Rattle.hm_elements.proofs.TableTools.{same_bytes, entry_passes, each_pair, pair_passes, HoldsInTables, stands_passes, no_row}
 use Rattle.hm_elements.proofs.TableFacts.{stands_parent, stands_beside_colgroup, start_cases, holds_more, holds_more_means}
 use Rattle.hm_elements.specs.Laws.{Follows, HoldsMore}
@@ -17,13 +17,13 @@ all_found test (Some ms) = list_all test ms
 
 -- what ends the parent t ends c too; a p holds no such c, and body none but p
 abbrev follows : List ℕ → List ℕ → Bool
-follows c t = not (bytes_eq t p) && (not (bytes_eq t colgroup) && ((if bytes_eq t body then bytes_eq c p else ends_with c t) && (all_found (yields c) (find t yield_rows) && all_found (ends_with c) (find t end_rows))))
+follows c t = not (bytes_eq t p) && (not (bytes_eq t colgroup) && ((if bytes_eq t body then bytes_eq c p else ends_with c t) && (all_found (is_closed_by_start c) (find t yield_rows) && all_found (ends_with c) (find t end_rows))))
 
 abbrev up_follows : List ℕ → List ℕ → Bool
-up_follows c t = if goes_up c t then follows c t else true
+up_follows c t = if end_tag_optional_in c t then follows c t else true
 
 up_of_p_follow : list_all (follows p) up_of_p ≡ true
-unfolding up_of_p blocks headings sections parts paragraph_ends yields yield_rows ends_with end_rows is_among
+unfolding up_of_p blocks headings sections parts paragraph_ends is_closed_by_start yield_rows ends_with end_rows is_among
 up_of_p_follow = refl
 
 -- names that go up, but p and option, stand nowhere by themselves
@@ -36,7 +36,7 @@ unfolding own_parents is_among
 option_row = refl
 
 up_ordinary : (n t : List ℕ) → find t children ≡ None → find n own_parents ≡ None → is_among n bound_names ≡ false → up_follows n t ≡ true
-unfolding goes_up
+unfolding end_tag_optional_in
 up_ordinary n t alone none not_in = by_p (bytes_eq n p) refl
   where
     not_up : is_among n up_names ≡ false
@@ -51,7 +51,7 @@ up_ordinary n t alone none not_in = by_p (bytes_eq n p) refl
     by_p false e = rw (no_row n option own_parents none option_row, not_up) refl
 
 up_follows_hold : HoldsInTables up_follows
-unfolding children noscript_children own_parents goes_up up_of_p up_names yields yield_rows ends_with end_rows blocks headings sections parts paragraph_ends rcdata_names raw_names voids is_among
+unfolding children noscript_children own_parents end_tag_optional_in up_of_p up_names is_closed_by_start yield_rows ends_with end_rows blocks headings sections parts paragraph_ends rcdata_names raw_names voids is_among
 up_follows_hold = record {
   children_pass = refl;
   noscript_passes = refl;
@@ -60,7 +60,7 @@ up_follows_hold = record {
   ordinary_passes = up_ordinary;
 }
 
-stands_follows : (n t : List ℕ) (g : Option (List ℕ)) → may_stand n t g ≡ true → goes_up n t ≡ true → follows n t ≡ true
+stands_follows : (n t : List ℕ) (g : Option (List ℕ)) → may_stand n t g ≡ true → end_tag_optional_in n t ≡ true → follows n t ≡ true
 stands_follows n t g h up = let k : up_follows n t ≡ true = stands_passes up_follows up_follows_hold n t g h in rw up at k
 
 found_passes : (test : List ℕ → Bool) (o : Option (List (List ℕ))) (k : List ℕ) → all_found test o ≡ true → is_among_found k o ≡ true → test k ≡ true
@@ -68,41 +68,41 @@ found_passes test None k all h = cc
 found_passes test (Some ms) k all h = entry_passes test k ms all h
 
 follows_means : (c t : List ℕ) → bytes_eq t body ≡ false → follows c t ≡ true → Follows c t
-unfolding yields ends_with
+unfolding is_closed_by_start ends_with
 follows_means c t other h =
     let one = and_parts (not (bytes_eq t p)) _ h in
     let two = and_parts (not (bytes_eq t colgroup)) _ one.1 in
     let three = and_parts (if bytes_eq t body then bytes_eq c p else ends_with c t) _ two.1 in
-    let four = and_parts (all_found (yields c) (find t yield_rows)) _ three.1 in
+    let four = and_parts (all_found (is_closed_by_start c) (find t yield_rows)) _ three.1 in
     let is_other : bytes_eq t colgroup ≡ false = not-true (bytes_eq t colgroup) two.0 in
     record {
       not_in_p = not-true (bytes_eq t p) one.0;
       ends_there = rw other at three.0;
-      yields_on = λ k e. found_passes (yields c) (find t yield_rows) k four.0 (rw is_other at e);
+      yields_on = λ k e. found_passes (is_closed_by_start c) (find t yield_rows) k four.0 (rw is_other at e);
       ends_on = λ k e. found_passes (ends_with c) (find t end_rows) k four.1 e;
     }
 
-pub up_means : (c t : List ℕ) (g : Option (List ℕ)) → may_stand c t g ≡ true → goes_up c t ≡ true → bytes_eq t body ≡ false → Follows c t
+pub up_means : (c t : List ℕ) (g : Option (List ℕ)) → may_stand c t g ≡ true → end_tag_optional_in c t ≡ true → bytes_eq t body ≡ false → Follows c t
 up_means c t g h up other = follows_means c t other (stands_follows c t g h up)
 
 -- only a p may be left open at the end of the body
-pub up_in_body : (c : List ℕ) (g : Option (List ℕ)) → may_stand c body g ≡ true → goes_up c body ≡ true → c ≡ p
+pub up_in_body : (c : List ℕ) (g : Option (List ℕ)) → may_stand c body g ≡ true → end_tag_optional_in c body ≡ true → c ≡ p
 up_in_body c g h up =
     let one = and_parts (not (bytes_eq body p)) _ (stands_follows c body g h up) in
     let two = and_parts (not (bytes_eq body colgroup)) _ one.1 in
     let three = and_parts (bytes_eq c p) _ two.1 in
     same_bytes c p three.0
 
-before_yields : each_pair yields before_rows ≡ true
-unfolding before_rows blocks headings sections parts paragraph_ends yields yield_rows is_among
+before_yields : each_pair is_closed_by_start before_rows ≡ true
+unfolding before_rows blocks headings sections parts paragraph_ends is_closed_by_start yield_rows is_among
 before_yields = refl
 
-before_tbody : each_pair (λ c k. not (bytes_eq k tbody) || (is_section c || yields c tr)) before_rows ≡ true
-unfolding before_rows blocks headings sections parts paragraph_ends yields yield_rows is_section is_among
+before_tbody : each_pair (λ c k. not (bytes_eq k tbody) || (is_section c || is_closed_by_start c tr)) before_rows ≡ true
+unfolding before_rows blocks headings sections parts paragraph_ends is_closed_by_start yield_rows is_section is_among
 before_tbody = refl
 
-before_colgroup : each_pair (λ c k. not (bytes_eq k colgroup) || yields c col) before_rows ≡ true
-unfolding before_rows blocks headings sections parts paragraph_ends yields yield_rows is_among
+before_colgroup : each_pair (λ c k. not (bytes_eq k colgroup) || is_closed_by_start c col) before_rows ≡ true
+unfolding before_rows blocks headings sections parts paragraph_ends is_closed_by_start yield_rows is_among
 before_colgroup = refl
 
 colgroup_in_table : (c t : List ℕ) (g : Option (List ℕ)) → may_stand c t g ≡ true → c ≡ colgroup → t ≡ table
@@ -110,8 +110,8 @@ unfolding is_among
 colgroup_in_table c t g h e = (stands_parent c t g h).in_table (rw e refl)
 
 -- what goes before a start tag yields to it, where both may stand in one parent
-pub goes_yields : (c k t : List ℕ) (g : Option (List ℕ)) → may_stand c t g ≡ true → may_stand k t g ≡ true → goes_before c k ≡ true → yields c k ≡ true
-unfolding goes_before yields
+pub goes_yields : (c k t : List ℕ) (g : Option (List ℕ)) → may_stand c t g ≡ true → may_stand k t g ≡ true → end_tag_optional_before c k ≡ true → is_closed_by_start c k ≡ true
+unfolding end_tag_optional_before is_closed_by_start
 goes_yields c k t g hc hk goes = by_colgroup (bytes_eq c colgroup) refl goes
   where
     in_table : bytes_eq c colgroup ≡ true → t ≡ table
@@ -122,7 +122,7 @@ goes_yields c k t g hc hk goes = by_colgroup (bytes_eq c colgroup) refl goes
 
     by_colgroup : (b : Bool) → bytes_eq c colgroup ≡ b → (if b then true else is_pair before_rows c k) ≡ true → (if b then not (bytes_eq k col) else is_pair yield_rows c k) ≡ true
     by_colgroup true e h = rw (no_col e) refl
-    by_colgroup false e h = let y : yields c k ≡ true = pair_passes yields c k before_rows before_yields h in rw e at y
+    by_colgroup false e h = let y : is_closed_by_start c k ≡ true = pair_passes is_closed_by_start c k before_rows before_yields h in rw e at y
 
 second_clause : (a b c d : Bool) → (a && b) || (c && d) ≡ false → (a ≡ true → b ≡ false) × (c ≡ true → d ≡ false)
 second_clause false b false d h = (λ e. cc, λ e. cc)
@@ -133,24 +133,24 @@ second_clause true false false d h = (λ e. refl, λ e. cc)
 second_clause true false true true h = cc
 second_clause true false true false h = (λ e. refl, λ e. refl)
 
-yields_tr : (c : List ℕ) → goes_before c tbody ≡ true → is_section c ≡ false → yields c tr ≡ true
-unfolding goes_before yields
+yields_tr : (c : List ℕ) → end_tag_optional_before c tbody ≡ true → is_section c ≡ false → is_closed_by_start c tr ≡ true
+unfolding end_tag_optional_before is_closed_by_start
 yields_tr c goes other = by_colgroup (bytes_eq c colgroup) refl goes
   where
     by_colgroup : (b : Bool) → bytes_eq c colgroup ≡ b → (if b then true else is_pair before_rows c tbody) ≡ true → (if b then not (bytes_eq tr col) else is_pair yield_rows c tr) ≡ true
     by_colgroup true e h = refl
     by_colgroup false e h =
-        let y : is_section c || yields c tr ≡ true = pair_passes (λ c' k. not (bytes_eq k tbody) || (is_section c' || yields c' tr)) c tbody before_rows before_tbody h in
-        let z : yields c tr ≡ true = rw other at y in
+        let y : is_section c || is_closed_by_start c tr ≡ true = pair_passes (λ c' k. not (bytes_eq k tbody) || (is_section c' || is_closed_by_start c' tr)) c tbody before_rows before_tbody h in
+        let z : is_closed_by_start c tr ≡ true = rw other at y in
         rw e at z
 
-yields_col : (c : List ℕ) → goes_before c colgroup ≡ true → bytes_eq c colgroup ≡ false → yields c col ≡ true
-unfolding goes_before
-yields_col c goes other = let h : is_pair before_rows c colgroup ≡ true = rw other at goes in pair_passes (λ c' k. not (bytes_eq k colgroup) || yields c' col) c colgroup before_rows before_colgroup h
+yields_col : (c : List ℕ) → end_tag_optional_before c colgroup ≡ true → bytes_eq c colgroup ≡ false → is_closed_by_start c col ≡ true
+unfolding end_tag_optional_before
+yields_col c goes other = let h : is_pair before_rows c colgroup ≡ true = rw other at goes in pair_passes (λ c' k. not (bytes_eq k colgroup) || is_closed_by_start c' col) c colgroup before_rows before_colgroup h
 
 -- an omitted start tag after an omitted end tag: what goes before the element yields to its first child too
-pub goes_yields_inside : (c n k : List ℕ) → goes_before c n ≡ true → bars_start c n ≡ false → start_goes_before n k ≡ true → yields c k ≡ true
-unfolding bars_start
+pub goes_yields_inside : (c n k : List ℕ) → end_tag_optional_before c n ≡ true → start_tag_required_after c n ≡ false → start_tag_optional_before n k ≡ true → is_closed_by_start c k ≡ true
+unfolding start_tag_required_after
 goes_yields_inside c n k goes free before =
     let clauses = second_clause (bytes_eq n tbody) (is_section c) (bytes_eq n colgroup) (bytes_eq c colgroup) free in
     elim (start_cases n k before) [
@@ -171,19 +171,19 @@ three_hold : (holds_more p ≡ true) × (holds_more option ≡ true) × (holds_m
 unfolding holds_text is_raw raw_names is_rcdata rcdata_names is_void voids is_among
 three_hold = (refl, refl, refl)
 
-before_holds_more : (c k : List ℕ) → goes_before c k ≡ true → holds_more c ≡ true
-unfolding goes_before
+before_holds_more : (c k : List ℕ) → end_tag_optional_before c k ≡ true → holds_more c ≡ true
+unfolding end_tag_optional_before
 before_holds_more c k h = by_colgroup (bytes_eq c colgroup) refl h
   where
     by_colgroup : (b : Bool) → bytes_eq c colgroup ≡ b → (if b then true else is_pair before_rows c k) ≡ true → holds_more c ≡ true
     by_colgroup true e h = rw (same_bytes c colgroup e) three_hold.2
     by_colgroup false e h = pair_passes (λ c' k'. holds_more c') c k before_rows before_holds h
 
-pub goes_before_holds_more : (c k : List ℕ) → goes_before c k ≡ true → HoldsMore c
-goes_before_holds_more c k h = holds_more_means c (before_holds_more c k h)
+pub end_tag_optional_before_holds_more : (c k : List ℕ) → end_tag_optional_before c k ≡ true → HoldsMore c
+end_tag_optional_before_holds_more c k h = holds_more_means c (before_holds_more c k h)
 
-up_holds_more : (c t : List ℕ) → goes_up c t ≡ true → holds_more c ≡ true
-unfolding goes_up
+up_holds_more : (c t : List ℕ) → end_tag_optional_in c t ≡ true → holds_more c ≡ true
+unfolding end_tag_optional_in
 up_holds_more c t h = by_p (bytes_eq c p) refl h
   where
     by_option : (b : Bool) → bytes_eq c option ≡ b → (if b then not (bytes_eq t (codes "datalist")) else is_among c up_names) ≡ true → holds_more c ≡ true
@@ -194,9 +194,9 @@ up_holds_more c t h = by_p (bytes_eq c p) refl h
     by_p true e h = rw (same_bytes c p e) three_hold.0
     by_p false e h = by_option (bytes_eq c option) refl h
 
-pub goes_up_holds_more : (c t : List ℕ) → goes_up c t ≡ true → HoldsMore c
-goes_up_holds_more c t h = holds_more_means c (up_holds_more c t h)
+pub end_tag_optional_in_holds_more : (c t : List ℕ) → end_tag_optional_in c t ≡ true → HoldsMore c
+end_tag_optional_in_holds_more c t h = holds_more_means c (up_holds_more c t h)
 
-pub left_open_holds : (c k : List ℕ) → (goes_before c k ≡ true) ⊎ (goes_up c k ≡ true) → HoldsMore c
-left_open_holds c k (inl h) = goes_before_holds_more c k h
-left_open_holds c k (inr h) = goes_up_holds_more c k h
+pub left_open_holds : (c k : List ℕ) → (end_tag_optional_before c k ≡ true) ⊎ (end_tag_optional_in c k ≡ true) → HoldsMore c
+left_open_holds c k (inl h) = end_tag_optional_before_holds_more c k h
+left_open_holds c k (inr h) = end_tag_optional_in_holds_more c k h

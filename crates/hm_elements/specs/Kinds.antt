@@ -2,7 +2,7 @@
 use Rattle.std.specs.Prelude.{ℕ, Bool, true, false, ◌||◌, List, Option, Some, None, bytes_eq}
 use Rattle.hm_elements.specs.declared.kind.Kind.{Kind}
 use Rattle.hm_elements.specs.Names.{is_among, PairRow, find, p, colgroup}
-use Rattle.hm_elements.specs.Nesting.{children, own_parents, bound_names, yield_rows, end_rows, yields, ends_with}
+use Rattle.hm_elements.specs.Nesting.{children, own_parents, bound_names, yield_rows, end_rows, is_closed_by_start, ends_with}
 use Rattle.hm_elements.specs.Tables.{class_of, is_heading, is_unnested, closes_p, is_boundary, is_block}
 
 abbrev pub is_found : Option (List (List ℕ)) → Bool
@@ -22,8 +22,8 @@ kind n = record {
   closes_p = closes_p n;
   boundary = is_boundary n false;
   block = is_block n;
-  yields = bytes_eq n colgroup || has_row yield_rows n;
-  p_yields = yields p n;
+  is_closed_by_start = bytes_eq n colgroup || has_row yield_rows n;
+  closes_open_p = is_closed_by_start p n;
   ends = has_row end_rows n;
   p_ends = ends_with p n;
   has_children = has_row children n;

@@ -6,8 +6,8 @@ use Rattle.hm_base.specs.RawText.{begins_end_tag}
 use Rattle.hm_base.specs.Walks.{Event, Element}
 use Rattle.hm_elements.specs.Names.{words, is_among, head, body, p, table, tr, col, colgroup, svg}
 use Rattle.hm_elements.specs.Tables.{is_root, is_void, is_refused, is_section, holds_text, is_raw, is_svg_name}
-use Rattle.hm_elements.specs.Nesting.{may_stand, yields, ends_with, made_under}
-use Rattle.hm_elements.specs.Omission.{goes_before, goes_up, start_goes_before, bars_start}
+use Rattle.hm_elements.specs.Nesting.{may_stand, is_closed_by_start, ends_with, made_under}
+use Rattle.hm_elements.specs.Omission.{end_tag_optional_before, end_tag_optional_in, start_tag_optional_before, start_tag_required_after}
 use Rattle.hm_elements.specs.Paths.{is_block_in_p, is_nested, is_deep}
 use Rattle.hm_elements.specs.Sample.{sample}
 use Rattle.hm_elements.specs.Settled.{Settled, raw_text_end, end_tag}
@@ -31,16 +31,16 @@ pub record HoldsMore (t : List ℕ) : Type 0 where
 pub record Follows (c t : List ℕ) : Type 0 where
   pub not_in_p : bytes_eq t p ≡ false
   pub ends_there : ends_with c t ≡ true
-  pub yields_on : (k : List ℕ) → yields t k ≡ true → yields c k ≡ true
+  pub yields_on : (k : List ℕ) → is_closed_by_start t k ≡ true → is_closed_by_start c k ≡ true
   pub ends_on : (k : List ℕ) → ends_with t k ≡ true → ends_with c k ≡ true
 
 -- An element n whose start tag is left out before that of its child k stands in a table, and the child's start tag makes it.
 pub record StartIsMade (n k t : List ℕ) : Type 0 where
   pub in_table : t ≡ table
   pub makes : made_under t k ≡ n ∷ []
-  pub kept : yields t k ≡ false
-  pub kept_inside : yields n k ≡ false
-  pub last : (l : List ℕ) → start_goes_before k l ≡ false
+  pub kept : is_closed_by_start t k ≡ false
+  pub kept_inside : is_closed_by_start n k ≡ false
+  pub last : (l : List ℕ) → start_tag_optional_before k l ≡ false
   pub no_block_in_p : (path : List Element) → is_block_in_p k path ≡ false
   pub not_nested : (path : List Element) → is_nested k path ≡ false
 
@@ -64,7 +64,7 @@ NothingIsMade = (n t : List ℕ) (g : Option (List ℕ)) → may_stand n t g ≡
 
 -- a parent that holds svg keeps it
 abbrev pub SvgIsKept : Type 0
-SvgIsKept = (t : List ℕ) (g : Option (List ℕ)) → may_stand svg t g ≡ true → yields t svg ≡ false
+SvgIsKept = (t : List ℕ) (g : Option (List ℕ)) → may_stand svg t g ≡ true → is_closed_by_start t svg ≡ false
 
 -- no element ends with the end tag of its own name by the table of end tags
 abbrev pub EndsAreOthers : Type 0
@@ -73,27 +73,27 @@ EndsAreOthers = (c n : List ℕ) → ends_with c n ≡ true → bytes_eq c n ≡
 -- Where an end tag may be left out:
 -- before a start tag that may stand there too, the element yields to it
 abbrev pub LeftOpenYields : Type 0
-LeftOpenYields = (c k t : List ℕ) (g : Option (List ℕ)) → may_stand c t g ≡ true → may_stand k t g ≡ true → goes_before c k ≡ true → yields c k ≡ true
+LeftOpenYields = (c k t : List ℕ) (g : Option (List ℕ)) → may_stand c t g ≡ true → may_stand k t g ≡ true → end_tag_optional_before c k ≡ true → is_closed_by_start c k ≡ true
 
 -- before a start tag that is left out too, the element yields to the tag that is written
 abbrev pub LeftOpenYieldsInside : Type 0
-LeftOpenYieldsInside = (c n k : List ℕ) → goes_before c n ≡ true → bars_start c n ≡ false → start_goes_before n k ≡ true → yields c k ≡ true
+LeftOpenYieldsInside = (c n k : List ℕ) → end_tag_optional_before c n ≡ true → start_tag_required_after c n ≡ false → start_tag_optional_before n k ≡ true → is_closed_by_start c k ≡ true
 
 -- at the end of its parent, what closes or ends the parent closes or ends the element
 abbrev pub LeftOpenFollows : Type 0
-LeftOpenFollows = (c t : List ℕ) (g : Option (List ℕ)) → may_stand c t g ≡ true → goes_up c t ≡ true → bytes_eq t body ≡ false → Follows c t
+LeftOpenFollows = (c t : List ℕ) (g : Option (List ℕ)) → may_stand c t g ≡ true → end_tag_optional_in c t ≡ true → bytes_eq t body ≡ false → Follows c t
 
 -- at the end of body, the element is p
 abbrev pub LeftOpenInBody : Type 0
-LeftOpenInBody = (c : List ℕ) (g : Option (List ℕ)) → may_stand c body g ≡ true → goes_up c body ≡ true → c ≡ p
+LeftOpenInBody = (c : List ℕ) (g : Option (List ℕ)) → may_stand c body g ≡ true → end_tag_optional_in c body ≡ true → c ≡ p
 
 -- the element holds more than one text
 abbrev pub LeftOpenHolds : Type 0
-LeftOpenHolds = (c k : List ℕ) → (goes_before c k ≡ true) ⊎ (goes_up c k ≡ true) → HoldsMore c
+LeftOpenHolds = (c k : List ℕ) → (end_tag_optional_before c k ≡ true) ⊎ (end_tag_optional_in c k ≡ true) → HoldsMore c
 
 -- Where a start tag may be left out, the start tag that follows it makes the element.
 abbrev pub LeftOutIsMade : Type 0
-LeftOutIsMade = (n k t : List ℕ) (g : Option (List ℕ)) → may_stand n t g ≡ true → start_goes_before n k ≡ true → StartIsMade n k t
+LeftOutIsMade = (n k t : List ℕ) (g : Option (List ℕ)) → may_stand n t g ≡ true → start_tag_optional_before n k ≡ true → StartIsMade n k t
 
 -- A path that isn't too deep with one more element isn't too deep without it.
 abbrev pub OuterIsNotDeep : Type 0

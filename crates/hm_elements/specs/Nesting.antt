@@ -72,8 +72,8 @@ yield_rows =
     ∷ []
 
 -- The open element closes before a start tag of that name.
-unfoldable pub yields : List ℕ → List ℕ → Bool
-yields current next = if bytes_eq current colgroup then not (bytes_eq next col) else is_pair yield_rows current next
+unfoldable pub is_closed_by_start : List ℕ → List ℕ → Bool
+is_closed_by_start current next = if bytes_eq current colgroup then not (bytes_eq next col) else is_pair yield_rows current next
 
 unfoldable pub end_rows : List PairRow
 end_rows =

@@ -19,8 +19,8 @@ before_rows =
     ∷ []
 
 -- The end tag of this element may be left out before the start tag of that HTML element.
-unfoldable pub goes_before : List ℕ → List ℕ → Bool
-goes_before n next = if bytes_eq n colgroup then true else is_pair before_rows n next
+unfoldable pub end_tag_optional_before : List ℕ → List ℕ → Bool
+end_tag_optional_before n next = if bytes_eq n colgroup then true else is_pair before_rows n next
 
 -- elements whose end tag may be left out at the end of each parent
 unfoldable pub up_names : List (List ℕ)
@@ -31,8 +31,8 @@ unfoldable pub up_of_p : List (List ℕ)
 up_of_p = body ∷ without (words "hr p table") blocks ++ words "button li dd dt td th caption object"
 
 -- The end tag of this element may be left out at the end of this parent.
-unfoldable pub goes_up : List ℕ → List ℕ → Bool
-goes_up n parent =
+unfoldable pub end_tag_optional_in : List ℕ → List ℕ → Bool
+end_tag_optional_in n parent =
     if bytes_eq n p then is_among parent up_of_p
     else if bytes_eq n option then not (bytes_eq parent (codes "datalist"))
     else is_among n up_names
@@ -41,12 +41,12 @@ unfoldable pub start_rows : List PairRow
 start_rows = row "colgroup" (words "col") ∷ row "tbody" (words "tr") ∷ []
 
 -- The start tag of this element may be left out before the start tag of that child.
-unfoldable pub start_goes_before : List ℕ → List ℕ → Bool
-start_goes_before n child = is_pair start_rows n child
+unfoldable pub start_tag_optional_before : List ℕ → List ℕ → Bool
+start_tag_optional_before n child = is_pair start_rows n child
 
 -- Where the end tag of this element was left out, the start tag of that one after it isn't left out.
-unfoldable pub bars_start : List ℕ → List ℕ → Bool
-bars_start before n = (bytes_eq n tbody && is_section before) || (bytes_eq n colgroup && bytes_eq before colgroup)
+unfoldable pub start_tag_required_after : List ℕ → List ℕ → Bool
+start_tag_required_after before n = (bytes_eq n tbody && is_section before) || (bytes_eq n colgroup && bytes_eq before colgroup)
 
 -- Elements that are taken into head where no start tag of body stands before them, so that tag isn't left out there.
 abbrev pub head_takers : List (List ℕ)

@@ -4,7 +4,7 @@ use Rattle.hm_base.specs.Walks.{Element}
 use Rattle.hm_base.specs.declared.limits.TheConstants.{DEPTH_LIMIT}
 use Rattle.hm_elements.specs.Names.{words, is_among, head, noscript, p}
 use Rattle.hm_elements.specs.Tables.{is_raw, holds_text, is_heading, is_unnested, closes_p, is_boundary}
-use Rattle.hm_elements.specs.Nesting.{is_name, may_stand, yields, ends_with, made_under}
+use Rattle.hm_elements.specs.Nesting.{is_name, may_stand, is_closed_by_start, ends_with, made_under}
 
 abbrev pub html_element : List ℕ → Element
 html_element n = record { name = n; foreign = false }
@@ -15,9 +15,9 @@ front q [] = []
 front q (e ∷ path) = if q e then e ∷ front q path else []
 
 -- what follows that prefix
-abbrev pub behind : (Element → Bool) → List Element → List Element
-behind q [] = []
-behind q (e ∷ path) = if q e then behind q path else e ∷ path
+abbrev pub rest_after : (Element → Bool) → List Element → List Element
+rest_after q [] = []
+rest_after q (e ∷ path) = if q e then rest_after q path else e ∷ path
 
 -- the name of the innermost element, and no bytes at the top
 abbrev pub current : List Element → List ℕ
@@ -46,7 +46,7 @@ stands_on n (e ∷ path) = may_stand n e.name (current_name path)
 -- the innermost element closes before a start tag of that name
 abbrev pub head_yields : List Element → List ℕ → Bool
 head_yields [] n = false
-head_yields (e ∷ path) n = yields e.name n
+head_yields (e ∷ path) n = is_closed_by_start e.name n
 
 -- an element of that name is open, of HTML or of SVG
 abbrev pub is_open : List ℕ → List Element → Bool
@@ -75,12 +75,12 @@ unfoldable pub is_deep : List Element → Bool
 is_deep path = nat_lt DEPTH_LIMIT (length path)
 
 -- the open element closes before a start tag of that name
-abbrev pub yields_to : List ℕ → Element → Bool
-yields_to n e = yields e.name n
+abbrev pub is_closed_by_start_of : List ℕ → Element → Bool
+is_closed_by_start_of n e = is_closed_by_start e.name n
 
 -- the open element, of another name, closes with an end tag of that name
-abbrev pub falls_to : List ℕ → Element → Bool
-falls_to n e = not (bytes_eq e.name n) && ends_with e.name n
+abbrev pub is_closed_by_end_of : List ℕ → Element → Bool
+is_closed_by_end_of n e = not (bytes_eq e.name n) && ends_with e.name n
 
 -- the elements that are made before one of that name opens, innermost first
 abbrev pub made_on : List ℕ → List Element → List Element

@@ -81,10 +81,10 @@ SettledLast (comment s ∷ w) = CommentAllowed [] s × SettledLast w
 SettledLast (e ∷ w) = ⊥
 
 -- after the end of body
-abbrev pub SettledBehindBody : List Event → Type 0
-SettledBehindBody (comment s ∷ w) = CommentAllowed html_path s × SettledBehindBody w
-SettledBehindBody (end n foreign ∷ w) = (n ≡ html) × (foreign ≡ false) × SettledLast w
-SettledBehindBody w = ⊥
+abbrev pub SettledAfterBody : List Event → Type 0
+SettledAfterBody (comment s ∷ w) = CommentAllowed html_path s × SettledAfterBody w
+SettledAfterBody (end n foreign ∷ w) = (n ≡ html) × (foreign ≡ false) × SettledLast w
+SettledAfterBody w = ⊥
 
 -- inside head or body, the root here, up to its end
 abbrev pub SettledInside : List ℕ → (List Event → Type 0) → List Element → List Event → Type 0
@@ -97,7 +97,7 @@ SettledInside root after [] (end n foreign ∷ w) = ⊥
 SettledInside root after (e ∷ path) (end n foreign ∷ w) = (e ≡ record { name = n; foreign = foreign }) × one_of_two (is_html root n foreign) (after w) (SettledInside root after path w)
 
 abbrev pub SettledBody : List Element → List Event → Type 0
-SettledBody path w = SettledInside body SettledBehindBody path w
+SettledBody path w = SettledInside body SettledAfterBody path w
 
 -- after the end of head
 abbrev pub SettledBeforeBody : List Event → Type 0

@@ -5,7 +5,7 @@ use Rattle.std.specs.Str.{is_utf8}
 use Rattle.hm_base.specs.Bytes.{is_null}
 use Rattle.hm_base.specs.Forms.{has_byte, is_blank, is_tag_name, is_attribute_name, is_comment_text}
 use Rattle.hm_base.specs.RawText.{raw_end, script_end}
-use Rattle.hm_base.specs.Walks.{Attribute, Event, doctype, start, text, comment, end, Element, same_flag, path_behind, path_after, ends_match, has_distinct_names, begins_text, begins_end}
+use Rattle.hm_base.specs.Walks.{Attribute, Event, doctype, start, text, comment, end, Element, same_flag, path_after_event, path_after, ends_match, has_distinct_names, begins_text, begins_end}
 use Rattle.hm_base.specs.declared.limits.TheConstants.{ATTRIBUTE_LIMIT}
 use Rattle.hm_elements.specs.Names.{html, head, body, script, svg}
 use Rattle.hm_elements.specs.Tables.{is_root, is_void, is_refused, is_svg_name, holds_svg_text}
@@ -43,8 +43,8 @@ is_all_there top = false
 -- 1. At the top stand comments, one doctype, comments, the element html and comments. No doctype stands deeper.
 abbrev pub has_top : Top → List Element → List Event → Bool
 has_top top path [] = is_all_there top
-has_top top [] (e ∷ w) = go_on (next_top top e) (λ next. has_top next (path_behind [] e) w)
-has_top top (m ∷ path) (e ∷ w) = not (is_doctype e) && has_top top (path_behind (m ∷ path) e) w
+has_top top [] (e ∷ w) = go_on (next_top top e) (λ next. has_top next (path_after_event [] e) w)
+has_top top (m ∷ path) (e ∷ w) = not (is_doctype e) && has_top top (path_after_event (m ∷ path) e) w
 
 -- what has stood under html
 pub data Frame : Type 0 where
@@ -72,14 +72,14 @@ starts_inner_root e = false
 -- 2. Under html stand comments, head, texts of whitespace and comments, body and comments. These three stand nowhere else.
 abbrev pub has_frame : Frame → List Element → List Event → Bool
 has_frame frame path [] = true
-has_frame frame [] (e ∷ w) = not (starts_inner_root e) && has_frame no_head (path_behind [] e) w
-has_frame frame (m ∷ []) (e ∷ w) = go_on (next_frame frame e) (λ next. has_frame next (path_behind (m ∷ []) e) w)
-has_frame frame (m ∷ k ∷ path) (e ∷ w) = not (starts_root e) && has_frame frame (path_behind (m ∷ k ∷ path) e) w
+has_frame frame [] (e ∷ w) = not (starts_inner_root e) && has_frame no_head (path_after_event [] e) w
+has_frame frame (m ∷ []) (e ∷ w) = go_on (next_frame frame e) (λ next. has_frame next (path_after_event (m ∷ []) e) w)
+has_frame frame (m ∷ k ∷ path) (e ∷ w) = not (starts_root e) && has_frame frame (path_after_event (m ∷ k ∷ path) e) w
 
 -- each event passes, with the open elements before it and the events after it
 abbrev pub all_events : (List Element → Event → List Event → Bool) → List Element → List Event → Bool
 all_events test path [] = true
-all_events test path (e ∷ w) = test path e w && all_events test (path_behind path e) w
+all_events test path (e ∷ w) = test path e w && all_events test (path_after_event path e) w
 
 -- 3. Every other HTML element stands in an HTML element that may hold it and doesn't yield to it. It has a name that is
 -- read. It stands neither in a paragraph that it would close nor in an element of its own kind.

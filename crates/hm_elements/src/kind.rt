@@ -25,9 +25,9 @@ pub struct Kind {
     /// Whitespace at its edges isn't seen.
     pub block: bool,
     /// It closes before some start tags.
-    pub yields: bool,
+    pub is_closed_by_start: bool,
     /// A `p` that is the innermost element closes before its start tag.
-    pub p_yields: bool,
+    pub closes_open_p: bool,
     /// It ends with some end tags of other names (#optional-tags).
     pub ends: bool,
     /// A `p` ends with its end tag.

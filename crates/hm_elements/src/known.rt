@@ -16,8 +16,8 @@ pub(crate) const OTHER: Kind = Kind {
     closes_p: false,
     boundary: false,
     block: false,
-    yields: false,
-    p_yields: false,
+    is_closed_by_start: false,
+    closes_open_p: false,
     ends: false,
     p_ends: false,
     has_children: false,
@@ -35,7 +35,7 @@ const UNNESTED: Kind = Kind {
 const BLOCK: Kind = Kind {
     closes_p: true,
     block: true,
-    p_yields: true,
+    closes_open_p: true,
     p_ends: true,
     ..OTHER
 };
@@ -79,8 +79,8 @@ const CELL: Kind = Kind {
     class: Class::TablePart,
     boundary: true,
     block: true,
-    yields: true,
-    p_yields: true,
+    is_closed_by_start: true,
+    closes_open_p: true,
     ends: true,
     p_ends: true,
     bound: true,
@@ -90,7 +90,7 @@ const CELL: Kind = Kind {
 const COL: Kind = Kind {
     class: Class::Void,
     block: true,
-    p_yields: true,
+    closes_open_p: true,
     has_children: true,
     bound: true,
     ..OTHER
@@ -99,8 +99,8 @@ const COL: Kind = Kind {
 const COLGROUP: Kind = Kind {
     class: Class::TablePart,
     block: true,
-    yields: true,
-    p_yields: true,
+    is_closed_by_start: true,
+    closes_open_p: true,
     ends: true,
     has_children: true,
     bound: true,
@@ -111,8 +111,8 @@ const COLGROUP: Kind = Kind {
 const ITEM: Kind = Kind {
     closes_p: true,
     block: true,
-    yields: true,
-    p_yields: true,
+    is_closed_by_start: true,
+    closes_open_p: true,
     ends: true,
     p_ends: true,
     has_parents: true,
@@ -123,7 +123,7 @@ const FORM: Kind = Kind {
     unnested: true,
     closes_p: true,
     block: true,
-    p_yields: true,
+    closes_open_p: true,
     p_ends: true,
     ..OTHER
 };
@@ -133,7 +133,7 @@ const HEADING: Kind = Kind {
     heading: true,
     closes_p: true,
     block: true,
-    p_yields: true,
+    closes_open_p: true,
     p_ends: true,
     ..OTHER
 };
@@ -151,7 +151,7 @@ const RULE: Kind = Kind {
     class: Class::Void,
     closes_p: true,
     block: true,
-    p_yields: true,
+    closes_open_p: true,
     has_children: true,
     ..OTHER
 };
@@ -185,7 +185,7 @@ const OBJECT: Kind = Kind {
 /// `option` and `optgroup`.
 const OPTION: Kind = Kind {
     block: true,
-    yields: true,
+    is_closed_by_start: true,
     ends: true,
     has_children: true,
     has_parents: true,
@@ -196,16 +196,16 @@ const OPTION: Kind = Kind {
 const PARAGRAPH: Kind = Kind {
     closes_p: true,
     block: true,
-    yields: true,
-    p_yields: true,
+    is_closed_by_start: true,
+    closes_open_p: true,
     ends: true,
     ..OTHER
 };
 
 /// `rt` and `rp`.
 const RUBY_TEXT: Kind = Kind {
-    yields: true,
-    p_yields: true,
+    is_closed_by_start: true,
+    closes_open_p: true,
     ends: true,
     has_parents: true,
     ..OTHER
@@ -227,7 +227,7 @@ const TABLE: Kind = Kind {
     closes_p: true,
     boundary: true,
     block: true,
-    p_yields: true,
+    closes_open_p: true,
     p_ends: true,
     has_children: true,
     ..OTHER
@@ -237,8 +237,8 @@ const TABLE: Kind = Kind {
 const PART: Kind = Kind {
     class: Class::TablePart,
     block: true,
-    yields: true,
-    p_yields: true,
+    is_closed_by_start: true,
+    closes_open_p: true,
     ends: true,
     p_ends: true,
     has_children: true,

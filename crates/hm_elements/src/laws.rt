@@ -17,7 +17,7 @@ pub fn svg_in_place()
 
 /// Where an end tag may be left out (#optional-tags), the next tag that is written closes or ends the element.
 pub fn end_tags_left_out()
-    ensures yields { LeftOpenYields }
+    ensures is_closed_by_start { LeftOpenYields }
     ensures yields_inside { LeftOpenYieldsInside }
     ensures follows { LeftOpenFollows }
     ensures in_body { LeftOpenInBody }

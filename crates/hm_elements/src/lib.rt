@@ -22,5 +22,8 @@ pub use lists::{
     is_section, is_space_parent, says_nothing_blank,
 };
 pub use look_up::{is_one_of, same_name};
-pub use nesting::{ends_with, may_stand, yields};
-pub use omission::{bars_start, goes_before, goes_up, is_head_taker, start_goes_before};
+pub use nesting::{ends_with, is_closed_by_start, may_stand};
+pub use omission::{
+    end_tag_optional_before, end_tag_optional_in, start_tag_optional_before,
+    start_tag_required_after, stays_in_head,
+};

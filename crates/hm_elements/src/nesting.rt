@@ -57,16 +57,16 @@ const YIELDS: [PairRow<'static>; 8] = [
 
 /// Whether the open element `current` closes before the start tag of an HTML element `next` (#optional-tags,
 /// #closing-elements-that-have-implied-end-tags, #parsing-main-inbody and following).
-#[tactic(auto, using(crate::proofs::NestingFacts::never_yields), unfolding(crate::specs::Nesting::yields))]
-pub fn yields(current: Named<'_>, next: Named<'_>) -> bool
-    ensures { result ≡ nesting.yields current.entry.name.now next.entry.name.now }
+#[tactic(auto, using(crate::proofs::NestingFacts::never_yields), unfolding(crate::specs::Nesting::is_closed_by_start))]
+pub fn is_closed_by_start(current: Named<'_>, next: Named<'_>) -> bool
+    ensures { result ≡ nesting.is_closed_by_start current.entry.name.now next.entry.name.now }
 {
-    if !current.kind().yields {
+    if !current.kind().is_closed_by_start {
         false
     } else if same_name(current.name(), "colgroup") {
         !same_name(next.name(), "col")
     } else if same_name("p", current.name()) {
-        next.kind().p_yields
+        next.kind().closes_open_p
     } else {
         yields_by_rows(current.name(), next.name())
     }

@@ -10,7 +10,7 @@ use crate::look_up::{is_one_of, same_name};
 
 /// Whether the end tag of a paragraph may be left out before the start tag of the HTML element: blocks are what closes a
 /// paragraph, except for the items of lists.
-fn goes_before_p(next: &str) -> bool
+fn end_tag_of_p_optional_before(next: &str) -> bool
     ensures { result ≡ is_among next.now tables.blocks }
 {
     let kind = kind_of(next);
@@ -18,9 +18,9 @@ fn goes_before_p(next: &str) -> bool
 }
 
 /// Whether the end tag of the HTML element may be left out before the start tag of the HTML element `next`.
-#[tactic(auto, unfolding(crate::specs::Omission::goes_before, crate::specs::Omission::before_rows, crate::specs::Names::is_among, crate::specs::Tables::is_section, crate::specs::Tables::sections))]
-pub fn goes_before(name: &str, next: &str) -> bool
-    ensures { result ≡ omission.goes_before name.now next.now }
+#[tactic(auto, unfolding(crate::specs::Omission::end_tag_optional_before, crate::specs::Omission::before_rows, crate::specs::Names::is_among, crate::specs::Tables::is_section, crate::specs::Tables::sections))]
+pub fn end_tag_optional_before(name: &str, next: &str) -> bool
+    ensures { result ≡ omission.end_tag_optional_before name.now next.now }
 {
     if is_cell(name) {
         is_cell(next)
@@ -43,16 +43,16 @@ pub fn goes_before(name: &str, next: &str) -> bool
     } else if is_one_of(name, &["option"]) {
         is_one_of(next, &["option", "optgroup"])
     } else if is_one_of(name, &["p"]) {
-        goes_before_p(next)
+        end_tag_of_p_optional_before(next)
     } else {
         false
     }
 }
 
 /// Whether the end tag of the HTML element may be left out at the end of this parent.
-#[tactic(auto, unfolding(crate::specs::Omission::goes_up, crate::specs::Omission::up_names, crate::specs::Names::is_among))]
-pub fn goes_up(name: &str, parent: &str) -> bool
-    ensures { result ≡ omission.goes_up name.now parent.now }
+#[tactic(auto, unfolding(crate::specs::Omission::end_tag_optional_in, crate::specs::Omission::up_names, crate::specs::Names::is_among))]
+pub fn end_tag_optional_in(name: &str, parent: &str) -> bool
+    ensures { result ≡ omission.end_tag_optional_in name.now parent.now }
 {
     if same_name(name, "p") {
         is_parent_of_loose_p(parent)
@@ -84,9 +84,9 @@ fn ends_loose_p(parent: Kind) -> bool
 }
 
 /// Whether the start tag of the HTML element may be left out before the start tag of this child.
-#[tactic(auto, unfolding(crate::specs::Omission::start_goes_before, crate::specs::Omission::start_rows, crate::specs::Names::is_among))]
-pub fn start_goes_before(name: &str, child: &str) -> bool
-    ensures { result ≡ omission.start_goes_before name.now child.now }
+#[tactic(auto, unfolding(crate::specs::Omission::start_tag_optional_before, crate::specs::Omission::start_rows, crate::specs::Names::is_among))]
+pub fn start_tag_optional_before(name: &str, child: &str) -> bool
+    ensures { result ≡ omission.start_tag_optional_before name.now child.now }
 {
     if is_one_of(name, &["colgroup"]) {
         is_one_of(child, &["col"])
@@ -98,16 +98,16 @@ pub fn start_goes_before(name: &str, child: &str) -> bool
 }
 
 /// Whether the start tag of the HTML element isn't left out after an end of the HTML element `before` whose tag was left out.
-#[tactic(auto, unfolding(crate::specs::Omission::bars_start))]
-pub fn bars_start(before: &str, name: &str) -> bool
-    ensures { result ≡ omission.bars_start before.now name.now }
+#[tactic(auto, unfolding(crate::specs::Omission::start_tag_required_after))]
+pub fn start_tag_required_after(before: &str, name: &str) -> bool
+    ensures { result ≡ omission.start_tag_required_after before.now name.now }
 {
     (same_name(name, "tbody") && is_section(before))
         || (same_name(name, "colgroup") && same_name(before, "colgroup"))
 }
 
 /// Whether the HTML element is taken into `head` where no start tag of `body` stands before it.
-pub fn is_head_taker(name: &str) -> bool
+pub fn stays_in_head(name: &str) -> bool
     ensures { result ≡ is_among name.now omission.head_takers }
 {
     is_one_of(name, &["link", "meta", "noscript", "script", "style"])

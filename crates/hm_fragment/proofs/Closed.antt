@@ -12,7 +12,7 @@ use Rattle.hm_refs.specs.Names.{Entry}
 use Rattle.hm_refs.specs.Tables.{IsTable}
 use Rattle.hm_tree.specs.Tokens.{Seen, Scanned, taken, refused}
 use Rattle.hm_tree.specs.Tokens as tokens
-use Rattle.hm_token_laws.specs.First.{ordinary, behind_empty_tags, read_here, Next, at_end, behind_bytes, first}
+use Rattle.hm_token_laws.specs.First.{ordinary, after_empty_tags, read_here, Next, at_end, after_bytes, first}
 use Rattle.hm_token_laws.specs.Laws.{IsPlain, SoundNames, SoundToken}
 use Rattle.hm_token_laws.specs.Written.{IsNextMarkup}
 use Rattle.hm_token_laws.proofs.Firsts.{tokens_are_sound}
@@ -26,9 +26,9 @@ use Rattle.hm_construction_laws.proofs.Modes.{is_mode, in_text}
 use Rattle.hm_construction_laws.proofs.Built.{token_leads}
 use Rattle.hm_construction_laws.proofs.Closing.{StaysOpen, bytes_open}
 use Rattle.hm_construction_laws.proofs.Rests.{rest_is}
-use Rattle.hm_construction_laws.specs.Closing.{is_behind_body, closed_step, closed_next, closed_from}
+use Rattle.hm_construction_laws.specs.Closing.{is_after_body, closed_step, closed_next, closed_from}
 use Rattle.hm_fragment.specs.Laws.{body_end, ClosedPagesTakeNoEndTag}
-use Rattle.hm_fragment.proofs.Behind.{IsBehind, at_end_is_behind, GoesBy, token_goes, body_end_stops}
+use Rattle.hm_fragment.proofs.PastBodyText.{IsPastBody, at_end_is_after, GoesBy, token_goes, body_end_stops}
 use Rattle.hm_fragment.proofs.Longer.{GoesOn, tags_longer, first_longer}
 
 -- ---- The end tag after a text
@@ -39,25 +39,25 @@ end_is_next t = ends_are_next t ordinary body body_end [] refl refl (record { wr
 
 end_here : (t : List Entry) → read_here t false body_end ≡ taken (tokens.end_tag body) []
 unfolding first
-end_here t = let h : behind_bytes 0 (read_here t false body_end) ≡ behind_bytes 0 (taken (tokens.end_tag body) []) = (end_is_next t).1 in cc
+end_here t = let h : after_bytes 0 (read_here t false body_end) ≡ after_bytes 0 (taken (tokens.end_tag body) []) = (end_is_next t).1 in cc
 
 -- where a text has no token more, the end tag is next
-over_longer : (t : List Entry) (s : List ℕ) → first t ordinary s ≡ at_end → first t ordinary (s ++ body_end) ≡ behind_bytes (behind_empty_tags s).count (taken (tokens.end_tag body) [])
+over_longer : (t : List Entry) (s : List ℕ) → first t ordinary s ≡ at_end → first t ordinary (s ++ body_end) ≡ after_bytes (after_empty_tags s).count (taken (tokens.end_tag body) [])
 unfolding first
-over_longer t s h = rw (tags_longer s) (by (behind_empty_tags s).rest refl h)
+over_longer t s h = rw (tags_longer s) (by (after_empty_tags s).rest refl h)
   where
-    by : (r : List ℕ) → (behind_empty_tags s).rest ≡ r → cond (is_null (behind_empty_tags s).rest) at_end (behind_bytes (behind_empty_tags s).count (read_here t false (behind_empty_tags s).rest)) ≡ at_end
-        → cond (is_null ((behind_empty_tags s).rest ++ body_end)) at_end (behind_bytes (behind_empty_tags s).count (read_here t false ((behind_empty_tags s).rest ++ body_end))) ≡ behind_bytes (behind_empty_tags s).count (taken (tokens.end_tag body) [])
-    by [] e k = rw e (ap (behind_bytes (behind_empty_tags s).count) (end_here t))
-    by (c ∷ r) e k = let no : behind_bytes (behind_empty_tags s).count (read_here t false (c ∷ r)) ≡ at_end = rw e at k in cc
+    by : (r : List ℕ) → (after_empty_tags s).rest ≡ r → cond (is_null (after_empty_tags s).rest) at_end (after_bytes (after_empty_tags s).count (read_here t false (after_empty_tags s).rest)) ≡ at_end
+        → cond (is_null ((after_empty_tags s).rest ++ body_end)) at_end (after_bytes (after_empty_tags s).count (read_here t false ((after_empty_tags s).rest ++ body_end))) ≡ after_bytes (after_empty_tags s).count (taken (tokens.end_tag body) [])
+    by [] e k = rw e (ap (after_bytes (after_empty_tags s).count) (end_here t))
+    by (c ∷ r) e k = let no : after_bytes (after_empty_tags s).count (read_here t false (c ∷ r)) ≡ at_end = rw e at k in cc
 
 -- ---- Outcomes
 
-record BuiltBehind (o : Outcome) : Type 0 where
+record BuiltAfter (o : Outcome) : Type 0 where
   rest : List Event
   is : o ≡ built rest
 
-after_built : (es : List Event) (o : Outcome) (w : List Event) → after_events es o ≡ built w → BuiltBehind o
+after_built : (es : List Event) (o : Outcome) (w : List Event) → after_events es o ≡ built w → BuiltAfter o
 after_built es (built v) w h = record { rest = v; is = refl }
 after_built es (refused_by rule at) w h = cc
 
@@ -67,22 +67,22 @@ same_skip c s rest = let a = length-append s body_end in let b = length-append r
 -- ---- After body
 
 -- what is read of a text after body isn't read with one more end tag of body
-abbrev StillBehind : List Entry → (ℕ → ℕ) → List ℕ → Type 0
-StillBehind t place s = (skip at : ℕ) (st : Construction) (v w : List Event) → skip ≤ length s → IsBehind st → tree_from t place skip at st s ≡ built v → tree_from t place skip at st (s ++ body_end) ≡ built w → ⊥
+abbrev StillAfter : List Entry → (ℕ → ℕ) → List ℕ → Type 0
+StillAfter t place s = (skip at : ℕ) (st : Construction) (v w : List Event) → skip ≤ length s → IsPastBody st → tree_from t place skip at st s ≡ built v → tree_from t place skip at st (s ++ body_end) ≡ built w → ⊥
 
-tag_stops : (place : ℕ → ℕ) (at n : ℕ) (st : Construction) (s : List ℕ) (w : List Event) (x : Next) (more : ℕ → Construction → Outcome) → IsBehind st → x ≡ behind_bytes n (taken (tokens.end_tag body) []) → next_step place at st s x more ≡ built w → ⊥
+tag_stops : (place : ℕ → ℕ) (at n : ℕ) (st : Construction) (s : List ℕ) (w : List Event) (x : Next) (more : ℕ → Construction → Outcome) → IsPastBody st → x ≡ after_bytes n (taken (tokens.end_tag body) []) → next_step place at st s x more ≡ built w → ⊥
 tag_stops place at n st s w x more b e h =
     let k : stepped place (at + n) (step st (tokens.end_tag body)) (more (pred (length s - 0))) ≡ built w = rw e at h in
     let m : refused_by _ _ ≡ built w = rw (body_end_stops st b) at k in
     cc
 
 module _ (t : List Entry) (table : IsTable t) (place : ℕ → ℕ) where
-  behind_token : (at : ℕ) (st : Construction) (c : ℕ) (s : List ℕ) (v w : List Event) → StillBehind t place s → IsBehind st → (x : Next) → first t ordinary (c ∷ s) ≡ x
+  text_after_token : (at : ℕ) (st : Construction) (c : ℕ) (s : List ℕ) (v w : List Event) → StillAfter t place s → IsPastBody st → (x : Next) → first t ordinary (c ∷ s) ≡ x
       → next_step place at st (c ∷ s) x (λ skip next. tree_from t place skip (at + 1) next s) ≡ built v
       → next_step place at st (c ∷ (s ++ body_end)) (first t ordinary (c ∷ (s ++ body_end))) (λ skip next. tree_from t place skip (at + 1) next (s ++ body_end)) ≡ built w → ⊥
-  behind_token at st c s v w more b at_end e h k = tag_stops place at (behind_empty_tags (c ∷ s)).count st (c ∷ (s ++ body_end)) w _ _ b (over_longer t (c ∷ s) e) k
-  behind_token at st c s v w more b (behind_bytes n (refused fault)) e h k = cc
-  behind_token at st c s v w more b (behind_bytes n (taken token rest)) e h k = by (step st token) refl (token_goes token st b) h
+  text_after_token at st c s v w more b at_end e h k = tag_stops place at (after_empty_tags (c ∷ s)).count st (c ∷ (s ++ body_end)) w _ _ b (over_longer t (c ∷ s) e) k
+  text_after_token at st c s v w more b (after_bytes n (refused fault)) e h k = cc
+  text_after_token at st c s v w more b (after_bytes n (taken token rest)) e h k = by (step st token) refl (token_goes token st b) h
     where
       skip : ℕ
       skip = pred (length (c ∷ s) - length rest)
@@ -98,24 +98,24 @@ module _ (t : List Entry) (table : IsTable t) (place : ℕ → ℕ) where
           let k' : stepped place (at + n) (step st token) (λ next'. tree_from t place (pred (length (c ∷ (s ++ body_end)) - length (rest ++ body_end))) (at + 1) next' (s ++ body_end)) ≡ built w = rw longer at k in
           let k'' : after_events es (tree_from t place skip (at + 1) next (s ++ body_end)) ≡ built w = rw (f, same_skip c s rest) at k' in
           let d = after_built es (tree_from t place skip (at + 1) next (s ++ body_end)) w k'' in
-          more skip (at + 1) next a.rest d.rest few g.behind a.is d.is
+          more skip (at + 1) next a.rest d.rest few g.after a.is d.is
 
-  still_behind : (s : List ℕ) → StillBehind t place s
-  still_behind [] zero at st v w few b h k = tag_stops place at 0 st body_end w _ _ b (ap (λ m. first t m body_end) b.reads ∙ (end_is_next t).1) k
-  still_behind [] (suc skip) at st v w few b h k = omega (arith, few)
-  still_behind (c ∷ s) (suc skip) at st v w few b h k = still_behind s skip (at + 1) st v w (omega (arith, few)) b h k
-  still_behind (c ∷ s) zero at st v w few b h k = behind_token at st c s v w (still_behind s) b (first t ordinary (c ∷ s)) refl (rw (b.reads) at h) (rw (b.reads) at k)
+  still_after : (s : List ℕ) → StillAfter t place s
+  still_after [] zero at st v w few b h k = tag_stops place at 0 st body_end w _ _ b (ap (λ m. first t m body_end) b.reads ∙ (end_is_next t).1) k
+  still_after [] (suc skip) at st v w few b h k = omega (arith, few)
+  still_after (c ∷ s) (suc skip) at st v w few b h k = still_after s skip (at + 1) st v w (omega (arith, few)) b h k
+  still_after (c ∷ s) zero at st v w few b h k = text_after_token at st c s v w (still_after s) b (first t ordinary (c ∷ s)) refl (rw (b.reads) at h) (rw (b.reads) at k)
 
 -- so a token after which body is closed is no text
-closes_no_text : (st next : Construction) (es : List Event) (k : Seen) → is_behind_body st.insertion_mode ≡ false → step st k ≡ went es next → is_behind_body next.insertion_mode ≡ true → (x : List ℕ) → k ≡ tokens.slice x → ⊥
+closes_no_text : (st next : Construction) (es : List Event) (k : Seen) → is_after_body st.insertion_mode ≡ false → step st k ≡ went es next → is_after_body next.insertion_mode ≡ true → (x : List ℕ) → k ≡ tokens.slice x → ⊥
 unfolding step
 closes_no_text st next es k h e b x is =
     let stepped_is : step_bytes x st ≡ went es next = (λ i. step st (sym is i)) ∙ e in
-    both_ways (is_behind_body next.insertion_mode) (subst StaysOpen stepped_is (bytes_open x st h)) b
+    both_ways (is_after_body next.insertion_mode) (subst StaysOpen stepped_is (bytes_open x st h)) b
 
 -- ---- What is known of the next state
 
-shape_at_end : (mode : InsertionMode) (st : Construction) → Shape mode st.path → is_behind_body mode ≡ true → AtEnd st.path
+shape_at_end : (mode : InsertionMode) (st : Construction) → Shape mode st.path → is_after_body mode ≡ true → AtEnd st.path
 shape_at_end initial st s h = cc
 shape_at_end before_html st s h = cc
 shape_at_end before_head st s h = cc
@@ -170,16 +170,16 @@ none_left t place (c ∷ s) (suc skip) at st h = none_left t place s skip (at + 
 
 module _ (t : List Entry) (table : IsTable t) (place : ℕ → ℕ) where
   abbrev Closes : List ℕ → Type 0
-  Closes s = (skip at : ℕ) (st : Construction) (p : ℕ) (v w : List Event) → skip ≤ length s → Good st → IsPlain (drop skip s) → is_behind_body st.insertion_mode ≡ false
+  Closes s = (skip at : ℕ) (st : Construction) (p : ℕ) (v w : List Event) → skip ≤ length s → Good st → IsPlain (drop skip s) → is_after_body st.insertion_mode ≡ false
       → closed_from t place skip at st s ≡ Some p → tree_from t place skip at st s ≡ built v → tree_from t place skip at st (s ++ body_end) ≡ built w → ⊥
 
-  closing_token : (at : ℕ) (st : Construction) (c : ℕ) (s : List ℕ) (p : ℕ) (v w : List Event) → Closes s → Good st → IsPlain (c ∷ s) → is_behind_body st.insertion_mode ≡ false → (x : Next) → first t (mode_of st.path) (c ∷ s) ≡ x
+  closing_token : (at : ℕ) (st : Construction) (c : ℕ) (s : List ℕ) (p : ℕ) (v w : List Event) → Closes s → Good st → IsPlain (c ∷ s) → is_after_body st.insertion_mode ≡ false → (x : Next) → first t (mode_of st.path) (c ∷ s) ≡ x
       → closed_next place at st (c ∷ s) x (λ skip next. closed_from t place skip (at + 1) next s) ≡ Some p
       → next_step place at st (c ∷ s) x (λ skip next. tree_from t place skip (at + 1) next s) ≡ built v
       → next_step place at st (c ∷ (s ++ body_end)) (first t (mode_of st.path) (c ∷ (s ++ body_end))) (λ skip next. tree_from t place skip (at + 1) next (s ++ body_end)) ≡ built w → ⊥
   closing_token at st c s p v w more g plain before at_end e d h k = cc
-  closing_token at st c s p v w more g plain before (behind_bytes n (refused fault)) e d h k = cc
-  closing_token at st c s p v w more g plain before (behind_bytes n (taken token rest)) e d h k = by (step st token) refl d h
+  closing_token at st c s p v w more g plain before (after_bytes n (refused fault)) e d h k = cc
+  closing_token at st c s p v w more g plain before (after_bytes n (taken token rest)) e d h k = by (step st token) refl d h
     where
       names : SoundNames t
       names = names_of_table t table
@@ -208,12 +208,12 @@ module _ (t : List Entry) (table : IsTable t) (place : ℕ → ℕ) where
       by (went es next) f d h =
           let a = after_built es (tree_from t place skip (at + 1) next s) v h in
           let good : Good next = next_good st next es token g sound.0 f in
-          by_place (is_behind_body next.insertion_mode) refl d a good
+          by_place (is_after_body next.insertion_mode) refl d a good
         where
-          by_place : (b : Bool) → is_behind_body next.insertion_mode ≡ b → cond b (Some (place (at + n))) (closed_from t place skip (at + 1) next s) ≡ Some p → BuiltBehind (tree_from t place skip (at + 1) next s) → Good next → ⊥
+          by_place : (b : Bool) → is_after_body next.insertion_mode ≡ b → cond b (Some (place (at + n))) (closed_from t place skip (at + 1) next s) ≡ Some p → BuiltAfter (tree_from t place skip (at + 1) next s) → Good next → ⊥
           by_place true b d a good =
               let m = after_built es (tree_from t place skip (at + 1) next (s ++ body_end)) w (on es next f (λ x i. absurd (closes_no_text st next es token before f b x i))) in
-              still_behind t table place s skip (at + 1) next a.rest m.rest few (at_end_is_behind next b (shape_at_end next.insertion_mode next good.shape b)) a.is m.is
+              still_after t table place s skip (at + 1) next a.rest m.rest few (at_end_is_after next b (shape_at_end next.insertion_mode next good.shape b)) a.is m.is
           by_place false b d a good =
               let m = after_built es (tree_from t place skip (at + 1) next (s ++ body_end)) w (on es next f (λ x i. inl (some rest refl))) in
               more skip (at + 1) next p a.rest m.rest few good (subst IsPlain (sym reached) sound.1) b d a.is m.is

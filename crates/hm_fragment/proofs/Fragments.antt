@@ -54,10 +54,10 @@ shortest_is_read_back t table r omit frame w s in_body =
     let o : StaysOpen t b = fragments_stay_open t table r omit frame w s in_body in
     let best : IsBest t r w b = first_ways_are_best t table r w s in
     let reads : page_tree t b ≡ built w = spellings_are_read_back everywhere t r w b table s best.spells in
-    let behind : unframed b ≡ o.fragment = ap unframed o.framed_is in
+    let after : unframed b ≡ o.fragment = ap unframed o.framed_is in
     record {
-      framed_is = ap framed behind ∙ sym o.framed_is;
-      reads = ap (fragment_tree t) behind ∙ open_pages_are_fragments t o.fragment w (subst (λ x. page_tree t x ≡ built w) o.framed_is reads) (subst (λ x. closed_at t x ≡ None) o.framed_is o.never_closed);
+      framed_is = ap framed after ∙ sym o.framed_is;
+      reads = ap (fragment_tree t) after ∙ open_pages_are_fragments t o.fragment w (subst (λ x. page_tree t x ≡ built w) o.framed_is reads) (subst (λ x. closed_at t x ≡ None) o.framed_is o.never_closed);
     }
 
 pub rewritten_is_read_back : RewrittenIsReadBack

@@ -10,26 +10,26 @@ use Rattle.hm_elements.specs.Names.{html, head, body, p, is_among}
 use Rattle.hm_elements.specs.Paths.{is_in_svg, is_in_text, is_in_blank, is_open}
 use Rattle.hm_elements.specs.Tables.{is_refused, refused_names, is_rcdata, rcdata_names, is_raw, raw_names}
 use Rattle.hm_refs.specs.Names.{Entry}
-use Rattle.hm_settle.specs.Moves.{Moves, moves, refuses, start_moves, end_moves}
+use Rattle.hm_open_elements.specs.Moves.{Moves, moves, refuses, start_moves, end_moves}
 use Rattle.hm_tree.specs.Tokens.{Seen, Scanned, taken, refused}
 use Rattle.hm_tree.specs.Tokens as tokens
-use Rattle.hm_token_laws.specs.First.{Next, at_end, behind_bytes, first, ordinary}
+use Rattle.hm_token_laws.specs.First.{Next, at_end, after_bytes, first, ordinary}
 use Rattle.hm_scan.specs.Reading.{read_tag, read_start, begins_tag, tag_fault, is_bad_byte}
 use Rattle.hm_scan.specs.Tags.{is_name_byte, is_later_byte, is_tag_end, attribute_at}
 use Rattle.hm_scan.specs.Texts.{begins_markup}
 use Rattle.hm_scan.specs.Doctypes.{read_doctype, doctype_form, begins_doctype}
-use Rattle.hm_construction_laws.specs.Steps.{InsertionMode, before_html, in_body, after_body, after_html, Construction, Stepped, went, stops, behind_events, behind_bytes as behind_refusal, then_step, step_byte, step_bytes, step_start, step_end, step, step_over, keep_byte, first_state, under_body, at_front, end_event, starts, entered, after_moves, closes_at_once, drops_behind, leave_body, is_at_end, closing, end_current, after_end_moves, start_in_body}
+use Rattle.hm_construction_laws.specs.Steps.{InsertionMode, before_html, in_body, after_body, after_html, Construction, Stepped, went, stops, stepped_after_events, after_bytes as after_refusal, then_step, step_byte, step_bytes, step_start, step_end, step, step_over, keep_byte, first_state, under_body, at_front, end_event, starts, entered, after_moves, closes_at_once, drops_after, leave_body, is_at_end, closing, end_current, after_end_moves, start_in_body}
 use Rattle.hm_construction_laws.specs.Trees.{Outcome, built, refused_by, after_events, mode_of, stepped, over, next_step, tree_from, tree_of_source, page_tree, unless_faulty}
 use Rattle.hm_construction_laws.proofs.Standing.{AtEnd}
 use Rattle.hm_construction_laws.proofs.Tags.{at_end_is}
-use Rattle.hm_construction_laws.specs.Closing.{is_behind_body, closed_step, closed_next, closed_from, closed_of_source}
+use Rattle.hm_construction_laws.specs.Closing.{is_after_body, closed_step, closed_next, closed_from, closed_of_source}
 use Rattle.hm_fragment.specs.Frames.{framed, front, frame_start, frame_end, IsFramed}
 use Rattle.hm_fragment.specs.Laws.{OpenPagesAreFramed}
 
 -- ---- In body, with nothing put off
 
 abbrev pub here : List Element → Bool → Construction
-here path drops = record { insertion_mode = in_body; path = path; drops_line_feed = drops; behind_body = []; behind_html = [] }
+here path drops = record { insertion_mode = in_body; path = path; drops_line_feed = drops; comments_after_body = []; comments_after_html = [] }
 
 pub record InBody (st : Construction) : Type 0 where
   pub path : List Element
@@ -41,7 +41,7 @@ in_here path drops = record { path = path; drops = drops; is = refl }
 
 -- a step stays there, or closes body
 abbrev Stays : Stepped → Type 0
-Stays (went es st) = InBody st ⊎ (is_behind_body st.insertion_mode ≡ true)
+Stays (went es st) = InBody st ⊎ (is_after_body st.insertion_mode ≡ true)
 Stays (stops rule n) = Prim.Unit {0}
 
 -- a step stays there
@@ -49,7 +49,7 @@ abbrev Remains : Stepped → Type 0
 Remains (went es st) = InBody st
 Remains (stops rule n) = Prim.Unit {0}
 
-later_remains : (es : List Event) (o : Stepped) → Remains o → Remains (behind_events es o)
+later_remains : (es : List Event) (o : Stepped) → Remains o → Remains (stepped_after_events es o)
 later_remains es (went fs st) h = h
 later_remains es (stops rule n) h = tt
 
@@ -72,12 +72,12 @@ bytes_remain : (s : List ℕ) (st : Construction) → InBody st → Remains (ste
 bytes_remain [] st k = k
 bytes_remain (c ∷ s) st k = by (step_byte c st) (subst (λ x. Remains (step_byte c x)) (sym k.is) (byte_remains c k.path k.drops)) (λ next h. bytes_remain s next h)
   where
-    later : (o : Stepped) → Remains o → Remains (behind_refusal 1 o)
+    later : (o : Stepped) → Remains o → Remains (after_refusal 1 o)
     later (went es next) h = h
     later (stops rule n) h = tt
 
-    by : (o : Stepped) → Remains o → ((next : Construction) → InBody next → Remains (step_bytes s next)) → Remains (then_step o (λ next. behind_refusal 1 (step_bytes s next)))
-    by (went es next) h more = later_remains es (behind_refusal 1 (step_bytes s next)) (later (step_bytes s next) (more next h))
+    by : (o : Stepped) → Remains o → ((next : Construction) → InBody next → Remains (step_bytes s next)) → Remains (then_step o (λ next. after_refusal 1 (step_bytes s next)))
+    by (went es next) h more = later_remains es (after_refusal 1 (step_bytes s next)) (later (step_bytes s next) (more next h))
     by (stops rule n) h more = tt
 
 front_remains : (o : Stepped) → Remains o → Remains (at_front o)
@@ -88,9 +88,9 @@ entered_remains : (attributes : List Attribute) (slash drops : Bool) (path more 
 entered_remains attributes slash drops path [] = in_here path drops
 entered_remains attributes slash drops path (e ∷ more) = by (closes_at_once slash (e ∷ more))
   where
-    by : (b : Bool) → Remains (cond b (went (start e.name e.foreign attributes ∷ end e.name e.foreign ∷ []) (here more drops)) (went (start e.name e.foreign attributes ∷ []) (here (e ∷ more) (drops_behind (e ∷ more)))))
+    by : (b : Bool) → Remains (cond b (went (start e.name e.foreign attributes ∷ end e.name e.foreign ∷ []) (here more drops)) (went (start e.name e.foreign attributes ∷ []) (here (e ∷ more) (drops_after (e ∷ more)))))
     by true = in_here more drops
-    by false = in_here (e ∷ more) (drops_behind (e ∷ more))
+    by false = in_here (e ∷ more) (drops_after (e ∷ more))
 
 moves_remain : (attributes : List Attribute) (slash drops : Bool) (path : List Element) (m : Moves) → Remains (after_moves attributes slash (here path drops) m)
 moves_remain attributes slash drops path (moves closed made more) = later_remains (map end_event closed ++ starts made) (entered attributes slash (here path drops) more) (entered_remains attributes slash drops path more)
@@ -109,7 +109,7 @@ end_moves_remain : (path : List Element) (m : Moves) → Remains (after_end_move
 end_moves_remain path (moves closed made more) = in_here more false
 end_moves_remain path (refuses rule) = tt
 
-leaves : (next : InsertionMode) (path : List Element) → is_behind_body next ≡ true → Stays (leave_body next (here path false))
+leaves : (next : InsertionMode) (path : List Element) → is_after_body next ≡ true → Stays (leave_body next (here path false))
 leaves next path h = by (is_at_end path)
   where
     by : (b : Bool) → Stays (cond b (went [] (record (here path false) { insertion_mode = next })) (stops Unclosed 0))
@@ -208,8 +208,8 @@ module _ (t : List Entry) (place : ℕ → ℕ) where
   token_framed : (at : ℕ) (st : Construction) (c : ℕ) (s : List ℕ) (w : List Event) → RestFramed s → InBody st → (x : Next)
       → next_step place at st (c ∷ s) x (λ skip next. tree_from t place skip (at + 1) next s) ≡ built w → closed_next place at st (c ∷ s) x (λ skip next. closed_from t place skip (at + 1) next s) ≡ None → EndsFramed w
   token_framed at st c s w more k at_end h d = over_framed place (at + length (c ∷ s)) st w k h
-  token_framed at st c s w more k (behind_bytes n (refused fault)) h d = cc
-  token_framed at st c s w more k (behind_bytes n (taken token rest)) h d = by (step st token) (step_stays st token k) h d
+  token_framed at st c s w more k (after_bytes n (refused fault)) h d = cc
+  token_framed at st c s w more k (after_bytes n (taken token rest)) h d = by (step st token) (step_stays st token k) h d
     where
       skip : ℕ
       skip = pred (length (c ∷ s) - length rest)
@@ -217,11 +217,11 @@ module _ (t : List Entry) (place : ℕ → ℕ) where
       by : (o : Stepped) → Stays o → stepped place (at + n) o (λ next. tree_from t place skip (at + 1) next s) ≡ built w → closed_step place (at + n) o (λ next. closed_from t place skip (at + 1) next s) ≡ None → EndsFramed w
       by (stops rule m) y h d = cc
       by (went es next) (inr b) h d = let no : Some (place (at + n)) ≡ None = rw b at d in cc
-      by (went es next) (inl y) h d = behind (tree_from t place skip (at + 1) next s) refl h (rw (ap (λ x. is_behind_body x.insertion_mode) y.is) at d)
+      by (went es next) (inl y) h d = after (tree_from t place skip (at + 1) next s) refl h (rw (ap (λ x. is_after_body x.insertion_mode) y.is) at d)
         where
-          behind : (o : Outcome) → tree_from t place skip (at + 1) next s ≡ o → after_events es o ≡ built w → closed_from t place skip (at + 1) next s ≡ None → EndsFramed w
-          behind (refused_by rule n) e h d = cc
-          behind (built v) e h d = let same : pushes es v ≡ w = cc in subst EndsFramed same (pushed_framed es v (more skip (at + 1) next v y e d))
+          after : (o : Outcome) → tree_from t place skip (at + 1) next s ≡ o → after_events es o ≡ built w → closed_from t place skip (at + 1) next s ≡ None → EndsFramed w
+          after (refused_by rule n) e h d = cc
+          after (built v) e h d = let same : pushes es v ≡ w = cc in subst EndsFramed same (pushed_framed es v (more skip (at + 1) next v y e d))
 
   rest_framed : (s : List ℕ) → RestFramed s
   rest_framed [] skip at st w k h d = over_framed place at st w k h
@@ -231,24 +231,24 @@ module _ (t : List Entry) (place : ℕ → ℕ) where
 -- ---- The front
 
 -- the text after the front
-record TextBehind (f : List ℕ) : Type 0 where
+record TextAfter (f : List ℕ) : Type 0 where
   rest : List ℕ
   is : map byte_of (placed_text (framed f)) ≡ front ++ rest
 
-text_behind : (f : List ℕ) → TextBehind f
-text_behind [] = record { rest = []; is = refl }
-text_behind (c ∷ f) = record { rest = map byte_of (returns_replaced (pairs_joined (numbered 21 (c ∷ f)))); is = refl }
+text_after : (f : List ℕ) → TextAfter f
+text_after [] = record { rest = []; is = refl }
+text_after (c ∷ f) = record { rest = map byte_of (returns_replaced (pairs_joined (numbered 21 (c ∷ f)))); is = refl }
 
-doctype_next : (t : List Entry) (rest : List ℕ) → first t ordinary (codes "<!doctype html>" ++ rest) ≡ behind_bytes 0 (taken (tokens.doctype false) rest)
+doctype_next : (t : List Entry) (rest : List ℕ) → first t ordinary (codes "<!doctype html>" ++ rest) ≡ after_bytes 0 (taken (tokens.doctype false) rest)
 unfolding first read_tag begins_tag begins_markup begins_doctype read_doctype doctype_form is_letter is_space lower
 doctype_next t rest = refl
 
-body_next : (t : List Entry) (rest : List ℕ) → first t ordinary (codes "<body>" ++ rest) ≡ behind_bytes 0 (taken (tokens.start_tag body [] false) rest)
+body_next : (t : List Entry) (rest : List ℕ) → first t ordinary (codes "<body>" ++ rest) ≡ after_bytes 0 (taken (tokens.start_tag body [] false) rest)
 unfolding first read_tag read_start begins_tag tag_fault is_bad_byte is_name_byte is_later_byte is_tag_end attribute_at is_letter is_space is_alnum is_digit_of lower is_tag_name is_small is_tag_byte begins_markup is_name_end
 body_next t rest = refl
 
 abbrev before_tag : Construction
-before_tag = record { insertion_mode = before_html; path = []; drops_line_feed = false; behind_body = []; behind_html = [] }
+before_tag = record { insertion_mode = before_html; path = []; drops_line_feed = false; comments_after_body = []; comments_after_html = [] }
 
 abbrev opened : List Event
 opened = start html false [] ∷ start head false [] ∷ end head false ∷ start body false [] ∷ []
@@ -265,14 +265,14 @@ first_steps = record { doctype_first = refl; body_opens = refl; ordinary_first =
 -- ---- The law
 
 module _ (t : List Entry) (place : ℕ → ℕ) where
-  tree_steps : (at : ℕ) (st next : Construction) (c : ℕ) (s rest : List ℕ) (token : Seen) (es : List Event) (skip : ℕ) → first t (mode_of st.path) (c ∷ s) ≡ behind_bytes 0 (taken token rest) → step st token ≡ went es next → pred (length (c ∷ s) - length rest) ≡ skip
+  tree_steps : (at : ℕ) (st next : Construction) (c : ℕ) (s rest : List ℕ) (token : Seen) (es : List Event) (skip : ℕ) → first t (mode_of st.path) (c ∷ s) ≡ after_bytes 0 (taken token rest) → step st token ≡ went es next → pred (length (c ∷ s) - length rest) ≡ skip
       → tree_from t place 0 at st (c ∷ s) ≡ after_events es (tree_from t place skip (at + 1) next s)
   tree_steps at st next c s rest token es skip e f g =
       ap (λ x. next_step place at st (c ∷ s) x (λ skip next. tree_from t place skip (at + 1) next s)) e
       ∙ ap (λ o. stepped place (at + 0) o (λ next. tree_from t place (pred (length (c ∷ s) - length rest)) (at + 1) next s)) f
       ∙ ap (λ k. after_events es (tree_from t place k (at + 1) next s)) g
 
-  closed_steps : (at : ℕ) (st next : Construction) (c : ℕ) (s rest : List ℕ) (token : Seen) (es : List Event) (skip : ℕ) → first t (mode_of st.path) (c ∷ s) ≡ behind_bytes 0 (taken token rest) → step st token ≡ went es next → is_behind_body next.insertion_mode ≡ false → pred (length (c ∷ s) - length rest) ≡ skip
+  closed_steps : (at : ℕ) (st next : Construction) (c : ℕ) (s rest : List ℕ) (token : Seen) (es : List Event) (skip : ℕ) → first t (mode_of st.path) (c ∷ s) ≡ after_bytes 0 (taken token rest) → step st token ≡ went es next → is_after_body next.insertion_mode ≡ false → pred (length (c ∷ s) - length rest) ≡ skip
       → closed_from t place 0 at st (c ∷ s) ≡ closed_from t place skip (at + 1) next s
   closed_steps at st next c s rest token es skip e f b g =
       ap (λ x. closed_next place at st (c ∷ s) x (λ skip next. closed_from t place skip (at + 1) next s)) e
@@ -283,10 +283,10 @@ module _ (t : List Entry) (place : ℕ → ℕ) where
   abbrev after_tag : List ℕ → Outcome
   after_tag rest = tree_from t place 5 16 (here under_body false) (codes "body>" ++ rest)
 
-  doctype_here : (rest : List ℕ) → first t (mode_of []) (front ++ rest) ≡ behind_bytes 0 (taken (tokens.doctype false) (codes "<body>" ++ rest))
+  doctype_here : (rest : List ℕ) → first t (mode_of []) (front ++ rest) ≡ after_bytes 0 (taken (tokens.doctype false) (codes "<body>" ++ rest))
   doctype_here rest = ap (λ m. first t m (front ++ rest)) first_steps.ordinary_first ∙ doctype_next t (codes "<body>" ++ rest)
 
-  body_here : (rest : List ℕ) → first t (mode_of []) (codes "<body>" ++ rest) ≡ behind_bytes 0 (taken (tokens.start_tag body [] false) rest)
+  body_here : (rest : List ℕ) → first t (mode_of []) (codes "<body>" ++ rest) ≡ after_bytes 0 (taken (tokens.start_tag body [] false) rest)
   body_here rest = ap (λ m. first t m (codes "<body>" ++ rest)) first_steps.ordinary_first ∙ body_next t rest
 
   tree_opens : (rest : List ℕ) → tree_from t place 0 0 first_state (front ++ rest) ≡ after_events (doctype false ∷ []) (after_events opened (after_tag rest))
@@ -315,7 +315,7 @@ open_pages_are_framed t f w h d = by (text_fault (framed f)) h
 
     read : tree_from t place 0 0 first_state (map byte_of (placed_text (framed f))) ≡ built w → IsFramed w
     read h =
-        let b : TextBehind f = text_behind f in
+        let b : TextAfter f = text_after f in
         let tree : tree_from t place 0 0 first_state (front ++ b.rest) ≡ built w = subst (λ s. tree_from t place 0 0 first_state s ≡ built w) b.is h in
         let open_still : closed_from t place 0 0 first_state (front ++ b.rest) ≡ None = subst (λ s. closed_from t place 0 0 first_state s ≡ None) b.is d in
         framed_by t place b.rest w (after_tag t place b.rest) refl (sym (tree_opens t place b.rest) ∙ tree) (sym (closed_opens t place b.rest) ∙ open_still)

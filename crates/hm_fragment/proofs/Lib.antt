@@ -1,5 +1,5 @@
 pub mod Longer
-pub mod Behind
+pub mod PastBodyText
 pub mod Closed
 pub mod Ways
 pub mod Units

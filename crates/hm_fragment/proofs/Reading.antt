@@ -37,7 +37,7 @@ pub fragment_closed : (t : List Entry) (page : List ℕ) (text : Source) (w : Li
 fragment_closed t page text w at h sound is closed reads = of_text t page text h sound is ∙ ap (λ closed. fragment_of closed (tree_of_source t text)) closed ∙ ap (fragment_of (Some at)) reads
 
 pub fragment_refused : (t : List Entry) (page : List ℕ) (text : Source) (refused : Refused) → StartsWith page front → text_fault page ≡ None → text ≡ source_of page → IsRefusedAs (tree_of_source t text) refused → IsRefusedAs (fragment_tree t (unframed page)) (refusal_of refused)
-fragment_refused t page text answers.Memory h sound is refused = tt
+fragment_refused t page text answers.OutOfMemory h sound is refused = tt
 fragment_refused t page text (answers.Page rule at) h sound is refused = of_text t page text h sound is ∙ ap (fragment_of (closed_of_source t text)) refused
 
 within_limit : (n m : ℕ) → m ≤ n → nat_lt n m ≡ false
@@ -46,7 +46,7 @@ within_limit n m h = grind (arith, nat_tests)
 -- a page without a text, within its limit
 pub text_refused : (t : List Entry) (page : List ℕ) (refused : Refused) → StartsWith page front → length page ≤ OUTPUT_LIMIT → IsRefusalOf refused OUTPUT_LIMIT page → IsRefusedAs (fragment_tree t (unframed page)) (refusal_of refused)
 unfolding page_tree
-text_refused t page answers.Memory h short refused = tt
+text_refused t page answers.OutOfMemory h short refused = tt
 text_refused t page (answers.Page rule at) h short refused =
     let within : nat_lt OUTPUT_LIMIT (length page) ≡ false = within_limit OUTPUT_LIMIT (length page) short in
     let fault : text_fault page ≡ Some (refusal_at rule at) = rw within at refused in

@@ -1,6 +1,6 @@
 -- The tree of a fragment stays one whatever options ask for.
 use Rattle.std.proofs.Common.{◌≡◌, ℕ, Bool, true, false, List, [], ◌∷◌, ◌++◌, Option, Some, None, refl, sym, ap, ◌∙◌, append_assoc}
-use Rattle.hm_base.specs.Walks.{Attribute, Event, doctype, start, end, Element, path_behind, pushes}
+use Rattle.hm_base.specs.Walks.{Attribute, Event, doctype, start, end, Element, path_after_event, pushes}
 use Rattle.hm_elements.specs.Names.{html, head, body}
 use Rattle.hm_options.specs.Rewrites.{by, plain_doctype, no_comment, with_attributes, no_boolean_values, no_empty, no_redundant, uncommented, where_set, rewrite}
 use Rattle.hm_options.specs.Rewritten.{rewritten, first_event}
@@ -18,17 +18,17 @@ record LeavesFrame (f : List Element → Option Event → Event → Option Event
 
 module _ (f : List Element → Option Event → Event → Option Event → List Event) (k : LeavesFrame f) where
   inside_framed : (inside : List Event) (path : List Element) (before : Option Event) → EndsFramed (rewritten f path before (inside ++ frame_end))
-  inside_framed [] path before = record { inside = []; is = rw (k.ends path before (Some (end html false)) body, k.ends (path_behind path (end body false)) (Some (end body false)) None html) refl }
+  inside_framed [] path before = record { inside = []; is = rw (k.ends path before (Some (end html false)) body, k.ends (path_after_event path (end body false)) (Some (end body false)) None html) refl }
   inside_framed (e ∷ inside) path before =
-      let h = inside_framed inside (path_behind path e) (Some e) in
+      let h = inside_framed inside (path_after_event path e) (Some e) in
       let this : List Event = f path before e (first_event (inside ++ frame_end)) in
       record { inside = this ++ h.inside; is = ap (λ x. this ++ x) h.is ∙ sym (append_assoc this h.inside frame_end) }
 
   by_framed : (w : List Event) → IsFramed w → IsFramed (by f w)
   by_framed w framed =
-      let under : List Element = path_behind [] (start html false []) in
+      let under : List Element = path_after_event [] (start html false []) in
       let next : Option Event = first_event (framed.inside ++ frame_end) in
-      let h = inside_framed framed.inside (path_behind under (start body false [])) (Some (start body false [])) in
+      let h = inside_framed framed.inside (path_after_event under (start body false [])) (Some (start body false [])) in
       record {
         inside = h.inside;
         is = ap (by f) framed.is
@@ -36,7 +36,7 @@ module _ (f : List Element → Option Event → Event → Option Event → List 
               k.doctypes [] None (Some (start html false [])),
               k.starts [] (Some (doctype false)) (Some (start head false [])) html,
               k.starts under (Some (start html false [])) (Some (end head false)) head,
-              k.ends (path_behind under (start head false [])) (Some (start head false [])) (Some (start body false [])) head,
+              k.ends (path_after_event under (start head false [])) (Some (start head false [])) (Some (start body false [])) head,
               k.starts under (Some (end head false)) next body,
             ) (ap (λ x. frame_start ++ x) h.is);
       }

@@ -4,12 +4,12 @@ use Rattle.std.proofs.lemmas.Bool.{and_parts, both_ways}
 use Rattle.hm_base.specs.Walks.{Attribute, Event, doctype, start, text, comment, end, Element, is_same_element, ends_match}
 use Rattle.hm_base.specs.declared.plain.SpellRules.{SpellRules}
 use Rattle.hm_elements.specs.Names.{is_among, html, head, body}
-use Rattle.hm_elements.specs.Omission.{bars_start}
+use Rattle.hm_elements.specs.Omission.{start_tag_required_after}
 use Rattle.hm_elements.specs.Paths.{outer}
 use Rattle.hm_elements.specs.Tables.{is_void, voids, is_section, sections}
 use Rattle.hm_spelling_spec.specs.Omission.{start_falls, may_omit_end, end_falls}
 use Rattle.hm_spelling_spec.specs.Spellings.{wants_line_feed, opening, other}
-use Rattle.hm_graph_laws.specs.Units.{Unit, TextKind, fixed, start_tag, tag_name, attribute_end, tag_close, end_tag, character_units, attribute_units, start_units, end_units, text_units, line_feed_units, is_behind_start, is_loose_end, may_close_itself, kind_of, Previous, units_from, units_of, in_value}
+use Rattle.hm_graph_laws.specs.Units.{Unit, TextKind, fixed, start_tag, tag_name, attribute_end, tag_close, end_tag, character_units, attribute_units, start_units, end_units, text_units, line_feed_units, is_after_start, is_loose_end, may_close_itself, kind_of, Previous, units_from, units_of, in_value}
 use Rattle.hm_fragment.specs.Frames.{frame_start, frame_end}
 use Rattle.hm_fragment.proofs.Ways.{closes_unit, begins_end_tag, Follows}
 
@@ -43,7 +43,7 @@ calm_attributes (a ∷ attributes) = calm_parts a.name a.value attributes (calm_
 
 calm_text : (previous : Previous) (path : List Element) (s : List ℕ) (raw : Bool) → Calm (text_units previous path s raw)
 calm_text previous path s true = (refl, tt)
-calm_text previous path s false = calm_append (line_feed_units previous path (chars s)) (character_units (kind_of path) (chars s)) (feed (wants_line_feed (cond (is_behind_start previous) opening other) path (chars s))) (calm_characters (kind_of path) (chars s))
+calm_text previous path s false = calm_append (line_feed_units previous path (chars s)) (character_units (kind_of path) (chars s)) (feed (wants_line_feed (cond (is_after_start previous) opening other) path (chars s))) (calm_characters (kind_of path) (chars s))
   where
     feed : (b : Bool) → Calm (cond b (fixed (10 ∷ []) ∷ []) [])
     feed true = (refl, tt)
@@ -69,8 +69,8 @@ pub record Split (inside : List Event) (units : List Unit) : Type 0 where
   pub begins : begins_foreign_end inside ≡ true → begins_end_tag us ≡ true
 
 -- with calm units in front
-split_behind : (e : Event) (inside : List Event) (xs units : List Unit) → Calm xs → begins_foreign_end (e ∷ inside) ≡ false → Split inside units → Split (e ∷ inside) (xs ++ units)
-split_behind e inside xs units c none k = record {
+split_after : (e : Event) (inside : List Event) (xs units : List Unit) → Calm xs → begins_foreign_end (e ∷ inside) ≡ false → Split inside units → Split (e ∷ inside) (xs ++ units)
+split_after e inside xs units c none k = record {
   us = xs ++ k.us;
   is = ap (λ x. xs ++ x) k.is ∙ sym (append_assoc xs k.us last_units);
   follows = calm_follows xs k.us c k.follows;
@@ -129,15 +129,15 @@ module _ (r : SpellRules) (omits : r.omit ≡ true) where
     follows = tt;
     begins = λ h. cc;
   }
-  inner_split (doctype legacy ∷ inside) previous path m = split_behind (doctype legacy) inside (fixed _ ∷ []) _ (refl, tt) refl (inner_split inside (Some (doctype legacy)) path m)
-  inner_split (comment s ∷ inside) previous path m = split_behind (comment s) inside (fixed _ ∷ []) _ (refl, tt) refl (inner_split inside (Some (comment s)) path m)
-  inner_split (text s raw ∷ inside) previous path m = split_behind (text s raw) inside (text_units previous path s raw) _ (calm_text previous path s raw) refl (inner_split inside (Some (text s raw)) path m)
+  inner_split (doctype legacy ∷ inside) previous path m = split_after (doctype legacy) inside (fixed _ ∷ []) _ (refl, tt) refl (inner_split inside (Some (doctype legacy)) path m)
+  inner_split (comment s ∷ inside) previous path m = split_after (comment s) inside (fixed _ ∷ []) _ (refl, tt) refl (inner_split inside (Some (comment s)) path m)
+  inner_split (text s raw ∷ inside) previous path m = split_after (text s raw) inside (text_units previous path s raw) _ (calm_text previous path s raw) refl (inner_split inside (Some (text s raw)) path m)
   inner_split (start n foreign attributes ∷ inside) previous path m =
       split_start r previous n foreign attributes (inside ++ frame_end) inside _ (closes_foreign n foreign path inside m) (inner_split inside (Some (start n foreign attributes)) (record { name = n; foreign = foreign } ∷ path) m)
   inner_split (end n foreign ∷ inside) previous path m = by foreign (inner_split inside (Some (end n foreign)) (outer path) (ends_less path n foreign (inside ++ frame_end) m))
     where
       by : (f : Bool) → Split inside (units_from r (Some (end n foreign)) (outer path) (inside ++ frame_end)) → Split (end n f ∷ inside) (end_units r n f (outer path) (inside ++ frame_end) ++ units_from r (Some (end n foreign)) (outer path) (inside ++ frame_end))
-      by false k = split_behind (end n false) inside (end_units r n false (outer path) (inside ++ frame_end)) _ (calm_end r n false (outer path) (inside ++ frame_end)) refl k
+      by false k = split_after (end n false) inside (end_units r n false (outer path) (inside ++ frame_end)) _ (calm_end r n false (outer path) (inside ++ frame_end)) refl k
       by true k = record {
         us = end_units r n true (outer path) (inside ++ frame_end) ++ k.us;
         is = ap (λ x. end_units r n true (outer path) (inside ++ frame_end) ++ x) k.is;
@@ -171,8 +171,8 @@ body_stays r f w = rw f (and_false r.omit)
     and_false true = refl
     and_false false = refl
 
-frame_tight : (is_void head ≡ false) × ((is_loose_end head ≡ false) × (bars_start head body ≡ false))
-unfolding is_void voids is_section sections is_among bars_start
+frame_tight : (is_void head ≡ false) × ((is_loose_end head ≡ false) × (start_tag_required_after head body ≡ false))
+unfolding is_void voids is_section sections is_among start_tag_required_after
 frame_tight = (refl, (refl, refl))
 
 frame_units : (r : SpellRules) → r.omit ≡ true → r.frame ≡ true → (w : List Event)

@@ -7,11 +7,11 @@ use Rattle.hm_graph_laws.specs.UnitEdges.{edges_of}
 use Rattle.hm_graph_laws.specs.Ways.{Way}
 use Rattle.hm_refs.specs.Tables.{IsIn, first, later}
 use Rattle.hm_spelling_spec.specs.Tags.{Spelling, character_rules}
-use Rattle.hm_graph_laws.specs.TagEdges.{unloosed, behind_left_out, is_self_closed, end_bytes}
+use Rattle.hm_graph_laws.specs.TagEdges.{unloosed, after_left_out, is_self_closed, end_bytes}
 use Rattle.hm_graph_laws.specs.CharacterEdges.{Choice, kept_at, choices, spot_at, is_in_section, section_edges, section_edges_by, outside_edges}
 use Rattle.hm_graph_laws.proofs.In.{in_append, only}
 use Rattle.hm_graph_laws.specs.Edges.{Edge, edge, edge_to}
-use Rattle.hm_graph_laws.specs.States.{Where, outside, loose, self_closed, behind_name, behind_unquoted, behind_quoted, in_unquoted, in_double, in_single, in_section, Pending, nothing, State, first_state}
+use Rattle.hm_graph_laws.specs.States.{Where, outside, loose, self_closed, after_name, after_unquoted, after_quoted, in_unquoted, in_double, in_single, in_section, Pending, nothing, State, first_state}
 use Rattle.hm_graph_laws.specs.Units.{Unit, fixed, start_tag, tag_name, bare_attribute, attribute_name, character, attribute_end, tag_close, end_tag}
 use Rattle.hm_graph_laws.specs.UnitWays.{WayTo}
 use Rattle.hm_optimality_laws.proofs.Cuts.{Cut, cut, joined}
@@ -33,15 +33,15 @@ unloosed_open : (at : Where) → is_self_closed at ≡ false → is_self_closed 
 unloosed_open outside h = refl
 unloosed_open loose h = refl
 unloosed_open self_closed h = cc
-unloosed_open behind_name h = refl
-unloosed_open behind_unquoted h = refl
-unloosed_open behind_quoted h = refl
+unloosed_open after_name h = refl
+unloosed_open after_unquoted h = refl
+unloosed_open after_quoted h = refl
 unloosed_open in_unquoted h = refl
 unloosed_open in_double h = refl
 unloosed_open in_single h = refl
 unloosed_open in_section h = refl
 
-left_out_open : (loosens : Bool) (s : State) → is_self_closed s.at ≡ false → is_self_closed (behind_left_out loosens s).at ≡ false
+left_out_open : (loosens : Bool) (s : State) → is_self_closed s.at ≡ false → is_self_closed (after_left_out loosens s).at ≡ false
 left_out_open true s h = refl
 left_out_open false s h = h
 
@@ -79,9 +79,9 @@ closed_open in_single e i = one_open _ e refl i
 closed_open outside e i = elim i [ ]
 closed_open loose e i = elim i [ ]
 closed_open self_closed e i = elim i [ ]
-closed_open behind_name e i = elim i [ ]
-closed_open behind_unquoted e i = elim i [ ]
-closed_open behind_quoted e i = elim i [ ]
+closed_open after_name e i = elim i [ ]
+closed_open after_unquoted e i = elim i [ ]
+closed_open after_quoted e i = elim i [ ]
 closed_open in_section e i = elim i [ ]
 
 -- the state isn't one after a tag that has closed itself

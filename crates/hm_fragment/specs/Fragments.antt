@@ -30,4 +30,4 @@ fragment_tree t fragment = fragment_of (closed_at t (framed fragment)) (page_tre
 -- a refusal of the page as one of the fragment
 abbrev pub refusal_of : Refused → Refused
 refusal_of (answers.Page rule at) = answers.Page rule (unframed_at at)
-refusal_of answers.Memory = answers.Memory
+refusal_of answers.OutOfMemory = answers.OutOfMemory

@@ -16,13 +16,13 @@ use hm_tree::Tree;
 use std::alloc::Global;
 
 /// What stands before a fragment, so that the two are a page.
-const FRONT: &str = "<!doctype html><body>";
+const FRAGMENT_PREFIX: &str = "<!doctype html><body>";
 
 /// The bytes of `<!doctype html><body>`, which stand before a fragment where it is read.
 pub fn front() -> &'static [u8]
     ensures { result.now ≡ frames.front }
 {
-    FRONT.as_bytes()
+    FRAGMENT_PREFIX.as_bytes()
 }
 
 /// The refusal of a fragment whose page is refused so. Places of the page are after the front.
@@ -32,9 +32,9 @@ fn refusal(refused: Refused) -> Refused
     match refused {
         Refused::Page { rule, at } => Refused::Page {
             rule,
-            at: at.saturating_sub(FRONT.len() as u32),
+            at: at.saturating_sub(FRAGMENT_PREFIX.len() as u32),
         },
-        Refused::Memory => Refused::Memory,
+        Refused::OutOfMemory => Refused::OutOfMemory,
     }
 }
 

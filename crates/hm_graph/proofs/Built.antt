@@ -4,7 +4,7 @@ use Rattle.std.proofs.Math.ListN.{replicate}
 use Rattle.std.proofs.lemmas.List.{map-append, get_or-replicate, length-replicate}
 use Rattle.std.proofs.lemmas.List.Elements.{All-append}
 use Rattle.std.specs.List.{All}
-use Rattle.hm_graph_laws.specs.Layers.{states_behind}
+use Rattle.hm_graph_laws.specs.Layers.{states_after}
 use Rattle.hm_graph_laws.specs.Ways.{Edges}
 use Rattle.hm_refs.specs.Names.{Entry}
 use Rattle.hm_graph_laws.specs.States as graph
@@ -23,22 +23,22 @@ use Rattle.hm_graph.specs.Building.{AddsSteps, AreThere, BuildingView, IsBuildin
 -- ---- Leading on
 
 lead_one : (edges : Edges) (bytes : units.Unit → Piece → List ℕ) (u : units.Unit) (states : List graph.State) (step : Step) (now : List graph.State)
-    → StepFits (bytes u) (edges u) now states step → now ≡ states_behind edges u states → Lead edges bytes (u ∷ []) states (step ∷ []) now
-lead_one edges bytes u states step now fits behind = (subst (λ b. StepFits (bytes u) (edges u) b states step) behind fits, sym behind)
+    → StepFits (bytes u) (edges u) now states step → now ≡ states_after edges u states → Lead edges bytes (u ∷ []) states (step ∷ []) now
+lead_one edges bytes u states step now fits after = (subst (λ b. StepFits (bytes u) (edges u) b states step) after fits, sym after)
 
-lead_on : (edges : Edges) (bytes : units.Unit → Piece → List ℕ) (us vs : List units.Unit) (states : List graph.State) (steps more : List Step) (mid behind : List graph.State)
-    → Lead edges bytes us states steps mid → Lead edges bytes vs mid more behind → Lead edges bytes (us ++ vs) states (steps ++ more) behind
-lead_on edges bytes [] vs states [] more mid behind lead on = subst (λ s. Lead edges bytes vs s more behind) (sym lead) on
-lead_on edges bytes [] vs states (x ∷ steps) more mid behind lead on = absurd lead
-lead_on edges bytes (u ∷ us) vs states [] more mid behind lead on = absurd lead
-lead_on edges bytes (u ∷ us) vs states (x ∷ steps) more mid behind lead on = (lead.0, lead_on edges bytes us vs (states_behind edges u states) steps more mid behind lead.1 on)
+lead_on : (edges : Edges) (bytes : units.Unit → Piece → List ℕ) (us vs : List units.Unit) (states : List graph.State) (steps more : List Step) (mid after : List graph.State)
+    → Lead edges bytes us states steps mid → Lead edges bytes vs mid more after → Lead edges bytes (us ++ vs) states (steps ++ more) after
+lead_on edges bytes [] vs states [] more mid after lead on = subst (λ s. Lead edges bytes vs s more after) (sym lead) on
+lead_on edges bytes [] vs states (x ∷ steps) more mid after lead on = absurd lead
+lead_on edges bytes (u ∷ us) vs states [] more mid after lead on = absurd lead
+lead_on edges bytes (u ∷ us) vs states (x ∷ steps) more mid after lead on = (lead.0, lead_on edges bytes us vs (states_after edges u states) steps more mid after lead.1 on)
 
-pub lead_fits : (edges : Edges) (bytes : units.Unit → Piece → List ℕ) (us : List units.Unit) (states : List graph.State) (steps : List Step) (behind : List graph.State)
-    → Lead edges bytes us states steps behind → StepsFit edges bytes us states steps (length behind)
-lead_fits edges bytes [] states [] behind lead = sym (ap length lead)
-lead_fits edges bytes [] states (x ∷ steps) behind lead = absurd lead
-lead_fits edges bytes (v ∷ us) states [] behind lead = absurd lead
-lead_fits edges bytes (v ∷ us) states (x ∷ steps) behind lead = (lead.0, lead_fits edges bytes us (states_behind edges v states) steps behind lead.1)
+pub lead_fits : (edges : Edges) (bytes : units.Unit → Piece → List ℕ) (us : List units.Unit) (states : List graph.State) (steps : List Step) (after : List graph.State)
+    → Lead edges bytes us states steps after → StepsFit edges bytes us states steps (length after)
+lead_fits edges bytes [] states [] after lead = sym (ap length lead)
+lead_fits edges bytes [] states (x ∷ steps) after lead = absurd lead
+lead_fits edges bytes (v ∷ us) states [] after lead = absurd lead
+lead_fits edges bytes (v ∷ us) states (x ∷ steps) after lead = (lead.0, lead_fits edges bytes us (states_after edges v states) steps after lead.1)
 
 low_on : (steps more : List Step) → AreLow steps → AreLow more → AreLow (steps ++ more)
 low_on [] more low on = on
@@ -92,9 +92,9 @@ there_more m n (Some numbers) len count k grows there are = (
 pub building_kept : (m n : InternedView) (numbers : Option (List ℕ)) (len last : ℕ) → IsBuilding m numbers len last → Grows m n → IsBuilding n numbers len last
 building_kept m n numbers len last is grows = record { numbers_there = there_kept m n numbers len grows is.numbers_there; last_there = (grows.lists last is.last_there).there; few = is.few }
 
-pub building_more : (m n : InternedView) (numbers : Option (List ℕ)) (len count last k behind : ℕ) → IsBuilding m numbers len last → Grows m n → k < length n.steps → behind < length n.lists → len + count < 2 ^ 29
-    → IsBuilding n (more_numbers numbers count k) (len + count) behind
-building_more m n numbers len count last k behind is grows there list few = record { numbers_there = there_more m n numbers len count k grows there is.numbers_there; last_there = list; few = few }
+pub building_more : (m n : InternedView) (numbers : Option (List ℕ)) (len count last k after : ℕ) → IsBuilding m numbers len last → Grows m n → k < length n.steps → after < length n.lists → len + count < 2 ^ 29
+    → IsBuilding n (more_numbers numbers count k) (len + count) after
+building_more m n numbers len count last k after is grows there list few = record { numbers_there = there_more m n numbers len count k grows there is.numbers_there; last_there = list; few = few }
 
 -- as many numbers are recorded as there are steps
 pub recorded_few : (m : InternedView) (numbers : Option (List ℕ)) (len last count : ℕ) → IsBuilding m numbers len last → len + count < 2 ^ 29 → IsFew numbers count
@@ -102,19 +102,19 @@ recorded_few m None len last count is few = tt
 recorded_few m (Some numbers) len last count is few = omega (arith, is.numbers_there.1, few)
 
 pub adds_one : (m n : InternedView) (numbers : Option (List ℕ)) (len last : ℕ) (unit : Unit) (k : ℕ) → IsBuilding m numbers len last → Grows m n → IsStepOf n last unit k → (u : units.Unit) → StandsFor m.table.entries unit u
-    → AddsSteps (building m numbers len last) (building n (more_numbers numbers 1 k) (len + 1) (made_at n k).behind) (u ∷ []) ((made_at n k).step ∷ [])
+    → AddsSteps (building m numbers len last) (building n (more_numbers numbers 1 k) (len + 1) (made_at n k).after) (u ∷ []) ((made_at n k).step ∷ [])
 adds_one m n numbers len last unit k is grows step u stands =
     let edges : Edges = edges_under n.table.entries n.rules in
     let bytes : units.Unit → Piece → List ℕ = piece_bytes n.table.entries in
     let list : IsListOf n (list_at m last) last = grows.lists last is.last_there in
     let own : StandsFor n.table.entries unit u = subst (λ v. StandsFor v.entries unit u) (sym grows.table) stands in
-    let one : Lead edges bytes (u ∷ []) (states_of n.table (list_at n last)) ((made_at n k).step ∷ []) (states_of n.table (list_at n (made_at n k).behind)) =
-    lead_one edges bytes u (states_of n.table (list_at n last)) (made_at n k).step (states_of n.table (list_at n (made_at n k).behind)) (step.layer.fits u own) (step.layer.states u own) in
+    let one : Lead edges bytes (u ∷ []) (states_of n.table (list_at n last)) ((made_at n k).step ∷ []) (states_of n.table (list_at n (made_at n k).after)) =
+    lead_one edges bytes u (states_of n.table (list_at n last)) (made_at n k).step (states_of n.table (list_at n (made_at n k).after)) (step.layer.fits u own) (step.layer.states u own) in
     record {
       table = grows.table;
       rules = grows.rules;
       lead = subst (λ A. A)
-          (λ i. Lead (edges_under (grows.table i).entries (grows.rules i)) (piece_bytes (grows.table i).entries) (u ∷ []) (states_of (grows.table i) (list.list i)) ((made_at n k).step ∷ []) (states_of (grows.table i) (list_at n (made_at n k).behind)))
+          (λ i. Lead (edges_under (grows.table i).entries (grows.rules i)) (piece_bytes (grows.table i).entries) (u ∷ []) (states_of (grows.table i) (list.list i)) ((made_at n k).step ∷ []) (states_of (grows.table i) (list_at n (made_at n k).after)))
           one;
       named = (subst (λ v. IsNamedStep v.entries (made_at n k).step) grows.table step.layer.named, tt);
       low = (step.layer.low, tt);
@@ -122,8 +122,8 @@ adds_one m n numbers len last unit k is grows step u stands =
       len = refl;
     }
 
-pub made_one : (n : InternedView) (numbers : Option (List ℕ)) (len last behind : ℕ) (unit : Unit) (k : ℕ) → IsStepOf n last unit k → IsMade (building n numbers len behind) k
-made_one n numbers len last behind unit k step = record { there = step.there; named = step.layer.named; low = step.layer.low }
+pub made_one : (n : InternedView) (numbers : Option (List ℕ)) (len last after : ℕ) (unit : Unit) (k : ℕ) → IsStepOf n last unit k → IsMade (building n numbers len after) k
+made_one n numbers len last after unit k step = record { there = step.there; named = step.layer.named; low = step.layer.low }
 
 -- ---- Adding more and more
 

@@ -65,13 +65,13 @@ first_of (c ∷ cs) = refl
 pub grows_self : (m : InternedView) → Grows m m
 grows_self m = record { table = refl; rules = refl; lists = λ k within. record { there = within; list = refl }; steps = λ n within. (within, refl) }
 
--- the step was added `count` times, and leads to the list `behind`
-pub record RunAdded (m : InternedView) (numbers : Option (List ℕ)) (len last behind : ℕ) (kind : TextKind) (n count : ℕ) (cs rest : List ℕ) : Type 0 where
-  pub is : IsBuilding m (more_numbers numbers count n) (len + count) behind
-  pub front : AddsFront (building m numbers len last) (building m (more_numbers numbers count n) (len + count) behind) kind cs rest (replicate count (made_at m n).step)
+-- the step was added `count` times, and leads to the list `after`
+pub record RunAdded (m : InternedView) (numbers : Option (List ℕ)) (len last after : ℕ) (kind : TextKind) (n count : ℕ) (cs rest : List ℕ) : Type 0 where
+  pub is : IsBuilding m (more_numbers numbers count n) (len + count) after
+  pub front : AddsFront (building m numbers len last) (building m (more_numbers numbers count n) (len + count) after) kind cs rest (replicate count (made_at m n).step)
 
 one_added : (m : InternedView) (numbers : Option (List ℕ)) (len last : ℕ) (kind : code.TextKind) (to : Reached) (c next : ℕ) (rest : List ℕ) → next_of rest ≡ Some next → IsBuilding m numbers len last → Leads m last kind true to c → len + 1 < 2 ^ 29
-    → RunAdded m numbers len last to.behind (kind_of kind) to.number 1 (c ∷ rest) rest
+    → RunAdded m numbers len last to.after (kind_of kind) to.number 1 (c ∷ rest) rest
 one_added m numbers len last kind to c next rest is_next is own few =
     let unit : Unit = Character kind c None true in
     let n : ℕ = to.number in
@@ -79,11 +79,11 @@ one_added m numbers len last kind to c next rest is_next is own few =
     let u : units.Unit = units.character (kind_of kind) c (next_of rest) in
     let lone : None ≡ edges.pair_of m.table.entries c (Some next) = rw (own.lone refl next) refl in
     let stands : StandsFor m.table.entries unit u = subst (λ x. StandsFor m.table.entries unit (units.character (kind_of kind) c x)) (sym is_next) (edges.character kind c None (Some next) true lone refl) in
-    let adds : AddsSteps (building m numbers len last) (building m (more_numbers numbers 1 n) (len + 1) to.behind) (u ∷ []) (step ∷ []) =
-    subst (λ b. AddsSteps (building m numbers len last) (building m (more_numbers numbers 1 n) (len + 1) b) (u ∷ []) (step ∷ [])) (sym own.behind) (adds_one m m numbers len last unit n is (grows_self m) own.step u stands) in
+    let adds : AddsSteps (building m numbers len last) (building m (more_numbers numbers 1 n) (len + 1) to.after) (u ∷ []) (step ∷ []) =
+    subst (λ b. AddsSteps (building m numbers len last) (building m (more_numbers numbers 1 n) (len + 1) b) (u ∷ []) (step ∷ [])) (sym own.after) (adds_one m m numbers len last unit n is (grows_self m) own.step u stands) in
     record {
-      is = building_more m m numbers len 1 last n to.behind is (grows_self m) own.step.there (subst (λ b. b < length m.lists) (sym own.behind) own.step.behind) few;
-      front = front_one (building m numbers len last) (building m (more_numbers numbers 1 n) (len + 1) to.behind) (kind_of kind) c rest step adds;
+      is = building_more m m numbers len 1 last n to.after is (grows_self m) own.step.there (subst (λ b. b < length m.lists) (sym own.after) own.step.after) few;
+      front = front_one (building m numbers len last) (building m (more_numbers numbers 1 n) (len + 1) to.after) (kind_of kind) c rest step adds;
     }
 
 numbers_twice : (numbers : Option (List ℕ)) (k n : ℕ) → more_numbers (more_numbers numbers 1 n) (suc k) n ≡ more_numbers numbers (suc (suc k)) n
@@ -91,28 +91,28 @@ numbers_twice None k n = refl
 numbers_twice (Some numbers) k n = ap Some (append_assoc numbers (n ∷ []) (replicate (suc k) n))
 
 run_added : (m : InternedView) (numbers : Option (List ℕ)) (len last : ℕ) (kind : code.TextKind) (to : Reached) (c : ℕ) (front : List ℕ) (d : ℕ) (ds : List ℕ) → IsBuilding m numbers len last → All (Leads m last kind true to) (c ∷ front)
-    → (0 < length front → to.behind ≡ last) → len + suc (length front) < 2 ^ 29 → RunAdded m numbers len last to.behind (kind_of kind) to.number (suc (length front)) (c ∷ front ++ d ∷ ds) (d ∷ ds)
+    → (0 < length front → to.after ≡ last) → len + suc (length front) < 2 ^ 29 → RunAdded m numbers len last to.after (kind_of kind) to.number (suc (length front)) (c ∷ front ++ d ∷ ds) (d ∷ ds)
 run_added m numbers len last kind to c [] d ds is leads back few = one_added m numbers len last kind to c d (d ∷ ds) refl is (leads 0 0 (omega arith)) (omega (arith, few))
 run_added m numbers len last kind to c (e ∷ front) d ds is leads back few =
     let n : ℕ = to.number in
     let step : Step = (made_at m n).step in
     let k : ℕ = length front in
     let one_more : Option (List ℕ) = more_numbers numbers 1 n in
-    let same_list : to.behind ≡ last = back (omega arith) in
-    let one : RunAdded m numbers len last to.behind (kind_of kind) n 1 (c ∷ e ∷ front ++ d ∷ ds) (e ∷ front ++ d ∷ ds) = one_added m numbers len last kind to c e (e ∷ front ++ d ∷ ds) refl is (leads 0 0 (omega arith)) (omega (arith, few)) in
+    let same_list : to.after ≡ last = back (omega arith) in
+    let one : RunAdded m numbers len last to.after (kind_of kind) n 1 (c ∷ e ∷ front ++ d ∷ ds) (e ∷ front ++ d ∷ ds) = one_added m numbers len last kind to c e (e ∷ front ++ d ∷ ds) refl is (leads 0 0 (omega arith)) (omega (arith, few)) in
     let own : IsBuilding m one_more (len + 1) last = subst (IsBuilding m one_more (len + 1)) same_list one.is in
-    let more : RunAdded m one_more (len + 1) last to.behind (kind_of kind) n (suc k) (e ∷ front ++ d ∷ ds) (d ∷ ds) =
+    let more : RunAdded m one_more (len + 1) last to.after (kind_of kind) n (suc k) (e ∷ front ++ d ∷ ds) (d ∷ ds) =
     run_added m one_more (len + 1) last kind to e front d ds own (λ j f within. leads (suc j) f (omega (arith, within))) (λ some. same_list) (omega (arith, few)) in
     let first : AddsFront (building m numbers len last) (building m one_more (len + 1) last) (kind_of kind) (c ∷ e ∷ front ++ d ∷ ds) (e ∷ front ++ d ∷ ds) (step ∷ []) =
     subst (λ b. AddsFront (building m numbers len last) (building m one_more (len + 1) b) (kind_of kind) (c ∷ e ∷ front ++ d ∷ ds) (e ∷ front ++ d ∷ ds) (step ∷ [])) same_list one.front in
     let same : more_numbers one_more (suc k) n ≡ more_numbers numbers (suc (suc k)) n = numbers_twice numbers k n in
     let count : (len + 1) + suc k ≡ len + suc (suc k) = omega arith in
-    let whole : AddsFront (building m numbers len last) (building m (more_numbers one_more (suc k) n) ((len + 1) + suc k) to.behind) (kind_of kind) (c ∷ e ∷ front ++ d ∷ ds) (d ∷ ds) (replicate (suc (suc k)) step) =
-    front_on (building m numbers len last) (building m one_more (len + 1) last) (building m (more_numbers one_more (suc k) n) ((len + 1) + suc k) to.behind) (kind_of kind) (c ∷ e ∷ front ++ d ∷ ds) (e ∷ front ++ d ∷ ds) (d ∷ ds) (step ∷ []) (replicate (suc k) step) first
+    let whole : AddsFront (building m numbers len last) (building m (more_numbers one_more (suc k) n) ((len + 1) + suc k) to.after) (kind_of kind) (c ∷ e ∷ front ++ d ∷ ds) (d ∷ ds) (replicate (suc (suc k)) step) =
+    front_on (building m numbers len last) (building m one_more (len + 1) last) (building m (more_numbers one_more (suc k) n) ((len + 1) + suc k) to.after) (kind_of kind) (c ∷ e ∷ front ++ d ∷ ds) (e ∷ front ++ d ∷ ds) (d ∷ ds) (step ∷ []) (replicate (suc k) step) first
     more.front in
     record {
-      is = subst (λ A. A) (λ i. IsBuilding m (same i) (count i) to.behind) more.is;
-      front = subst (λ A. A) (λ i. AddsFront (building m numbers len last) (building m (same i) (count i) to.behind) (kind_of kind) (c ∷ e ∷ front ++ d ∷ ds) (d ∷ ds) (replicate (suc (suc k)) step)) whole;
+      is = subst (λ A. A) (λ i. IsBuilding m (same i) (count i) to.after) more.is;
+      front = subst (λ A. A) (λ i. AddsFront (building m numbers len last) (building m (same i) (count i) to.after) (kind_of kind) (c ∷ e ∷ front ++ d ∷ ds) (d ∷ ds) (replicate (suc (suc k)) step)) whole;
     }
 
 all_ascii : (m : InternedView) (last : ℕ) (kind : code.TextKind) (to : Reached) (front : List ℕ) → All (Leads m last kind true to) front → All (λ c. c < 128) front
@@ -123,27 +123,27 @@ pub lead_ascii : (m : InternedView) (last : ℕ) (kind : code.TextKind) (to : Re
 lead_ascii m last kind to front leads = IsAscii-from_all front (all_ascii m last kind to front leads)
 
 before_more : (m : InternedView) (numbers : Option (List ℕ)) (len last : ℕ) (kind : code.TextKind) (to : Reached) (front rest : List ℕ) → 0 < length front → 0 < length rest → IsBuilding m numbers len last → All (Leads m last kind true to) front
-    → (1 < length front → to.behind ≡ last) → len + length front < 2 ^ 29 → RunAdded m numbers len last to.behind (kind_of kind) to.number (length front) (front ++ rest) rest
+    → (1 < length front → to.after ≡ last) → len + length front < 2 ^ 29 → RunAdded m numbers len last to.after (kind_of kind) to.number (length front) (front ++ rest) rest
 before_more m numbers len last kind to [] rest some more is leads back few = absurd (omega (arith, some))
 before_more m numbers len last kind to (c ∷ front) [] some more is leads back few = absurd (omega (arith, more))
 before_more m numbers len last kind to (c ∷ front) (d ∷ ds) some more is leads back few = run_added m numbers len last kind to c front d ds is leads (λ others. back (omega (arith, others))) few
 
 -- a prefix of a text, with more after it
-pub text_added : (m : InternedView) (numbers : Option (List ℕ)) (len last : ℕ) (kind : code.TextKind) (to : Reached) (text : List ℕ) (count : ℕ) → IsUtf8 text → 0 < count → count < length text → (1 < count → to.behind ≡ last) → IsBuilding m numbers len last
-    → All (Leads m last kind true to) (take count text) → len + count < 2 ^ 29 → RunAdded m numbers len last to.behind (kind_of kind) to.number count (chars text) (chars (drop count text))
+pub text_added : (m : InternedView) (numbers : Option (List ℕ)) (len last : ℕ) (kind : code.TextKind) (to : Reached) (text : List ℕ) (count : ℕ) → IsUtf8 text → 0 < count → count < length text → (1 < count → to.after ≡ last) → IsBuilding m numbers len last
+    → All (Leads m last kind true to) (take count text) → len + count < 2 ^ 29 → RunAdded m numbers len last to.after (kind_of kind) to.number count (chars text) (chars (drop count text))
 text_added m numbers len last kind to text count utf8 some short back is leads few =
     let ascii : IsAscii (take count text) = lead_ascii m last kind to (take count text) leads in
     let inside : count ≤ length text = omega (arith, short) in
     let size : length (take count text) ≡ count = length-take-le count text inside in
     let rest : IsUtf8 (drop count text) = IsUtf8-drop text count utf8 (ascii_boundary text count utf8 inside ascii) in
     let more : 0 < length (chars (drop count text)) = some_chars (drop count text) rest (omega (arith, short, ap length (take-append-drop count text), length-append (take count text) (drop count text), size)) in
-    subst (λ cs. RunAdded m numbers len last to.behind (kind_of kind) to.number count cs (chars (drop count text))) (sym (text_cut text count ascii))
-    (subst (λ i. RunAdded m numbers len last to.behind (kind_of kind) to.number i (take count text ++ chars (drop count text)) (chars (drop count text))) size
+    subst (λ cs. RunAdded m numbers len last to.after (kind_of kind) to.number count cs (chars (drop count text))) (sym (text_cut text count ascii))
+    (subst (λ i. RunAdded m numbers len last to.after (kind_of kind) to.number i (take count text ++ chars (drop count text)) (chars (drop count text))) size
     (before_more m numbers len last kind to (take count text) (chars (drop count text)) (omega (arith, some, size)) more is leads (λ others. back (omega (arith, others, size))) (omega (arith, few, size))))
 
 -- their step was made
-pub alike_made : (m : InternedView) (numbers : Option (List ℕ)) (len last behind : ℕ) (kind : code.TextKind) (to : Reached) (text : List ℕ) (count : ℕ) → 0 < count → count ≤ length text → All (Leads m last kind true to) (take count text)
-    → IsMade (building m numbers len behind) to.number
-alike_made m numbers len last behind kind to text count some inside leads =
+pub alike_made : (m : InternedView) (numbers : Option (List ℕ)) (len last after : ℕ) (kind : code.TextKind) (to : Reached) (text : List ℕ) (count : ℕ) → 0 < count → count ≤ length text → All (Leads m last kind true to) (take count text)
+    → IsMade (building m numbers len after) to.number
+alike_made m numbers len last after kind to text count some inside leads =
     let first : Leads m last kind true to _ = leads 0 0 (omega (arith, some, length-take-le count text inside)) in
     record { there = first.step.there; named = first.step.layer.named; low = first.step.layer.low }

@@ -8,9 +8,9 @@ use Rattle.std.proofs.lemmas.List.{drop_all, drop_more, length-take-le}
 use Rattle.std.proofs.lemmas.Option.{slice_get_within, get_or_from_slice_get}
 use Rattle.std.proofs.lemmas.Str.{chars_past_char}
 use Rattle.hm_base.specs.Walks.{Attribute, Event}
-use Rattle.hm_parts.proofs.AttributeUnits.{first_alone}
-use Rattle.hm_parts.specs.Events.{units_at, units_left}
-use Rattle.hm_parts.proofs.UnitsLeft.{units_left-next, units_left-none}
+use Rattle.hm_event_parts.proofs.AttributeUnits.{first_alone}
+use Rattle.hm_event_parts.specs.Events.{units_at, units_left}
+use Rattle.hm_event_parts.proofs.UnitsLeft.{units_left-next, units_left-none}
 use Rattle.hm_refs.specs.Names.{Entry}
 use Rattle.hm_refs.specs.Tables.{TableView}
 use Rattle.hm_graph.specs.Steps.{Step}
@@ -133,10 +133,10 @@ AttributesAdded C attributes n old new = Goes C (attribute_units attributes) (at
 pub attribute_added : {V : Type 0} (C : V → List Entry → List Unit → List Step → V → Type 0) (attributes : List Attribute) (n : ℕ) (x : Attribute) (a b d : Along V) → slice_get attributes n ≡ Some x → AttributesAdded C attributes n a b → Goes C (attribute_units (x ∷ [])) [] b d
     → AttributesAdded C attributes (n + 1) a d
 attribute_added C attributes n x a b d at added one =
-    let behind : List Unit = attribute_units (drop (n + 1) attributes) in
+    let after : List Unit = attribute_units (drop (n + 1) attributes) in
     let rest : drop n attributes ≡ x ∷ drop (n + 1) attributes = rw (drop_more attributes n x (slice_get_within attributes n x at), get_or_from_slice_get attributes n x x at) refl in
-    goes_on C (attribute_units attributes) (attribute_units (drop n attributes)) behind a b d added
-    (subst (λ us. Goes C us behind b d) (sym (ap attribute_units rest ∙ first_alone x (drop (n + 1) attributes))) (goes_front C (attribute_units (x ∷ [])) behind b d one))
+    goes_on C (attribute_units attributes) (attribute_units (drop n attributes)) after a b d added
+    (subst (λ us. Goes C us after b d) (sym (ap attribute_units rest ∙ first_alone x (drop (n + 1) attributes))) (goes_front C (attribute_units (x ∷ [])) after b d one))
 
 pub attributes_all : {V : Type 0} (C : V → List Entry → List Unit → List Step → V → Type 0) (attributes : List Attribute) (n : ℕ) (a b : Along V) → length attributes ≤ n → AttributesAdded C attributes n a b → Goes C (attribute_units attributes) [] a b
 attributes_all C attributes n a b past added = subst (λ xs. Goes C (attribute_units attributes) (attribute_units xs) a b) (drop_all n attributes past) added

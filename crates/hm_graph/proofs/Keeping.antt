@@ -4,7 +4,7 @@ use Rattle.hm_graph_laws.specs.Edges.{Edge, edge_length}
 use Rattle.hm_graph_laws.specs.States.{State}
 use Rattle.hm_graph_laws.specs.Units.{Unit}
 use Rattle.hm_edges.specs.declared.pieces.Piece.{Piece}
-use Rattle.hm_graph_laws.specs.Layers.{states_behind}
+use Rattle.hm_graph_laws.specs.Layers.{states_after}
 use Rattle.hm_graph_laws.specs.Prices.{Row, price_at, KeepsEdge, KeepsEdges, KeepsLayer, AreZero, FeasibleFrom}
 use Rattle.hm_graph_laws.specs.Ways.{Edges}
 use Rattle.hm_graph.specs.Fits.{HopFits, HopsFit, StepFits, StepsFit}
@@ -14,27 +14,27 @@ use Rattle.hm_graph.specs.declared.hops.Hop.{Hop}
 use Rattle.hm_graph.proofs.StepPlaces.{Tells, tells_price}
 
 -- a price keeps the same rule at a hop and at its edge
-hop_keeps : (bytes : Piece → List ℕ) (behind : List State) (row : Row) (f : State → Option ℕ) (price : Option ℕ) (e : Edge) (x : Hop) → Tells behind row f → HopFits bytes behind e x
+hop_keeps : (bytes : Piece → List ℕ) (after : List State) (row : Row) (f : State → Option ℕ) (price : Option ℕ) (e : Edge) (x : Hop) → Tells after row f → HopFits bytes after e x
     → KeepsEdge price x.len (slice_index_or row x.to None) ≡ KeepsEdge price (edge_length e) (f e.to)
-hop_keeps bytes behind row f price e x tells h = λ i. KeepsEdge price (h.len i) (tells e.to x.to h.to i)
+hop_keeps bytes after row f price e x tells h = λ i. KeepsEdge price (h.len i) (tells e.to x.to h.to i)
 
-hops_keep : (bytes : Piece → List ℕ) (behind : List State) (row : Row) (f : State → Option ℕ) (price : Option ℕ) (edges : List Edge) (hops : List Hop) → Tells behind row f → HopsFit bytes behind edges hops
+hops_keep : (bytes : Piece → List ℕ) (after : List State) (row : Row) (f : State → Option ℕ) (price : Option ℕ) (edges : List Edge) (hops : List Hop) → Tells after row f → HopsFit bytes after edges hops
     → KeepsHops price row hops ≡ KeepsEdges price f edges
-hops_keep bytes behind row f price [] [] tells h = refl
-hops_keep bytes behind row f price [] (x ∷ hops) tells h = absurd h
-hops_keep bytes behind row f price (e ∷ edges) [] tells h = absurd h
-hops_keep bytes behind row f price (e ∷ edges) (x ∷ hops) tells h =
-    λ i. hop_keeps bytes behind row f price e x tells h.0 i × hops_keep bytes behind row f price edges hops tells h.1 i
+hops_keep bytes after row f price [] [] tells h = refl
+hops_keep bytes after row f price [] (x ∷ hops) tells h = absurd h
+hops_keep bytes after row f price (e ∷ edges) [] tells h = absurd h
+hops_keep bytes after row f price (e ∷ edges) (x ∷ hops) tells h =
+    λ i. hop_keeps bytes after row f price e x tells h.0 i × hops_keep bytes after row f price edges hops tells h.1 i
 
-step_keeps : (edges : Edges) (bytes : Piece → List ℕ) (behind : List State) (next : Row) (f : State → Option ℕ) (unit : Unit) (states : List State) (step : Step) (row : Row)
-    → Tells behind next f → StepFits bytes (edges unit) behind states step → KeepsStep next step row ≡ KeepsLayer edges unit f states row
-step_keeps edges bytes behind next f unit [] [] [] tells h = refl
-step_keeps edges bytes behind next f unit [] [] (price ∷ row) tells h = refl
-step_keeps edges bytes behind next f unit [] (hops ∷ step) row tells h = absurd h
-step_keeps edges bytes behind next f unit (s ∷ states) [] row tells h = absurd h
-step_keeps edges bytes behind next f unit (s ∷ states) (hops ∷ step) [] tells h = refl
-step_keeps edges bytes behind next f unit (s ∷ states) (hops ∷ step) (price ∷ row) tells h =
-    λ i. hops_keep bytes behind next f price (edges unit s) hops tells h.0 i × step_keeps edges bytes behind next f unit states step row tells h.1 i
+step_keeps : (edges : Edges) (bytes : Piece → List ℕ) (after : List State) (next : Row) (f : State → Option ℕ) (unit : Unit) (states : List State) (step : Step) (row : Row)
+    → Tells after next f → StepFits bytes (edges unit) after states step → KeepsStep next step row ≡ KeepsLayer edges unit f states row
+step_keeps edges bytes after next f unit [] [] [] tells h = refl
+step_keeps edges bytes after next f unit [] [] (price ∷ row) tells h = refl
+step_keeps edges bytes after next f unit [] (hops ∷ step) row tells h = absurd h
+step_keeps edges bytes after next f unit (s ∷ states) [] row tells h = absurd h
+step_keeps edges bytes after next f unit (s ∷ states) (hops ∷ step) [] tells h = refl
+step_keeps edges bytes after next f unit (s ∷ states) (hops ∷ step) (price ∷ row) tells h =
+    λ i. hops_keep bytes after next f price (edges unit s) hops tells h.0 i × step_keeps edges bytes after next f unit states step row tells h.1 i
 
 zeros_are : (states : List State) (row : Row) → row ≡ zeros (length states) → AreZero states row
 zeros_are [] [] e = tt
@@ -58,9 +58,9 @@ keeps_feasible edges bytes [] states (step ∷ steps) last (row ∷ rows) h k = 
 keeps_feasible edges bytes (unit ∷ units) states [] last (row ∷ rows) h k = absurd h
 keeps_feasible edges bytes (unit ∷ units) states (step ∷ steps) last (row ∷ []) h k = absurd k
 keeps_feasible edges bytes (unit ∷ units) states (step ∷ steps) last (row ∷ next ∷ rows) h k =
-    let behind : List State = states_behind edges unit states in (
-      subst (λ A. A) (step_keeps edges (bytes unit) behind next (price_at behind next) unit states step row (tells_price behind next) h.0) k.0,
-      keeps_feasible edges bytes units behind steps last (next ∷ rows) h.1 k.1,
+    let after : List State = states_after edges unit states in (
+      subst (λ A. A) (step_keeps edges (bytes unit) after next (price_at after next) unit states step row (tells_price after next) h.0) k.0,
+      keeps_feasible edges bytes units after steps last (next ∷ rows) h.1 k.1,
     )
 
 -- prices that keep the rules in the graph do so over steps
@@ -73,7 +73,7 @@ feasible_keeps edges bytes [] states (step ∷ steps) last (row ∷ rows) h f = 
 feasible_keeps edges bytes (unit ∷ units) states [] last (row ∷ rows) h f = absurd h
 feasible_keeps edges bytes (unit ∷ units) states (step ∷ steps) last (row ∷ []) h f = absurd f
 feasible_keeps edges bytes (unit ∷ units) states (step ∷ steps) last (row ∷ next ∷ rows) h f =
-    let behind : List State = states_behind edges unit states in (
-      subst (λ A. A) (sym (step_keeps edges (bytes unit) behind next (price_at behind next) unit states step row (tells_price behind next) h.0)) f.0,
-      feasible_keeps edges bytes units behind steps last (next ∷ rows) h.1 f.1,
+    let after : List State = states_after edges unit states in (
+      subst (λ A. A) (sym (step_keeps edges (bytes unit) after next (price_at after next) unit states step row (tells_price after next) h.0)) f.0,
+      feasible_keeps edges bytes units after steps last (next ∷ rows) h.1 f.1,
     )

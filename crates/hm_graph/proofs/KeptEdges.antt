@@ -9,8 +9,8 @@ use Rattle.hm_edges.specs.States.{HasNodes, state_of}
 use Rattle.hm_edges.specs.declared.pieces.Edge.{Edge}
 use Rattle.hm_edges.specs.declared.states.State.{State}
 use Rattle.hm_graph_laws.proofs.States.{same_self}
-use Rattle.hm_optimality_laws.specs.Outdone as outdone
-use Rattle.hm_optimality_laws.specs.Outdone.{Dominance, dominance, outdoes_in_front, outdoes_behind, kept_behind, kept_edges}
+use Rattle.hm_optimality_laws.specs.Dominated as dominated
+use Rattle.hm_optimality_laws.specs.Dominated.{Dominance, dominance, dominates_in_front, dominates_after, kept_after, kept_edges}
 use Rattle.hm_refs.specs.Tables.{TableView}
 use Rattle.hm_graph_laws.specs.Edges as graph
 use Rattle.hm_graph_laws.specs.States.{same_state}
@@ -63,20 +63,20 @@ any_end p v u edges n all past left = ap (λ es. list_any p (edges_seen v u es))
 -- Those of the first edges that are kept are there; the rest is judged.
 abbrev pub SomeKept : TableView → units.Unit → List Edge → List Edge → ℕ → Type 0
 SomeKept v u edges kept n =
-    edges_seen v u kept ++ kept_behind (dominance v.entries) u (reverse (edges_seen v u (take n edges))) (edges_seen v u (drop n edges)) ≡ kept_edges (dominance v.entries) u (edges_seen v u edges)
+    edges_seen v u kept ++ kept_after (dominance v.entries) u (reverse (edges_seen v u (take n edges))) (edges_seen v u (drop n edges)) ≡ kept_edges (dominance v.entries) u (edges_seen v u edges)
 
 -- whether the edge is outdone by one of those before it or after it
-abbrev pub is_outdone : TableView → units.Unit → Edge → List Edge → List Edge → Bool
-is_outdone v u e front behind = list_any (outdoes_in_front v.entries u (edge_of v u e)) (edges_seen v u front) || list_any (outdoes_behind v.entries u (edge_of v u e)) (edges_seen v u behind)
+abbrev pub is_dominated : TableView → units.Unit → Edge → List Edge → List Edge → Bool
+is_dominated v u e front after = list_any (dominates_in_front v.entries u (edge_of v u e)) (edges_seen v u front) || list_any (dominates_after v.entries u (edge_of v u e)) (edges_seen v u after)
 
 any_reverse : (f : graph.Edge → Bool) (es : List graph.Edge) → list_any f (reverse es) ≡ list_any f es
 any_reverse f es = sym (list_any-IsPermutation f es (reverse es) (IsPermutation-reverse es))
 
 -- the rest, by whether its first edge is outdone
-rest_by : (d : Dominance) (u : units.Unit) (before : List graph.Edge) (e : graph.Edge) (es : List graph.Edge) (b : Bool) → outdone.is_outdone d u before e es ≡ b
-    → kept_behind d u (reverse before) (e ∷ es) ≡ cond b (kept_behind d u (e ∷ reverse before) es) (e ∷ kept_behind d u (e ∷ reverse before) es)
+rest_by : (d : Dominance) (u : units.Unit) (before : List graph.Edge) (e : graph.Edge) (es : List graph.Edge) (b : Bool) → dominated.is_dominated d u before e es ≡ b
+    → kept_after d u (reverse before) (e ∷ es) ≡ cond b (kept_after d u (e ∷ reverse before) es) (e ∷ kept_after d u (e ∷ reverse before) es)
 rest_by d u before e es b is =
-    ap (λ x. cond x (kept_behind d u (e ∷ reverse before) es) (e ∷ kept_behind d u (e ∷ reverse before) es)) (ap (λ x. x || list_any (d.behind u e) es) (any_reverse (d.in_front u e) before) ∙ is)
+    ap (λ x. cond x (kept_after d u (e ∷ reverse before) es) (e ∷ kept_after d u (e ∷ reverse before) es)) (ap (λ x. x || list_any (d.after u e) es) (any_reverse (d.in_front u e) before) ∙ is)
 
 -- one more edge before it
 front_more : (v : TableView) (u : units.Unit) (edges : List Edge) (n : ℕ) (e : Edge) → n < length edges → e ≡ get_or edges n e
@@ -85,22 +85,22 @@ front_more v u edges n e within at =
     ap (λ es. reverse (edges_seen v u es)) (take_more edges n e within ∙ ap (λ x. take n edges ++ x ∷ []) (sym at))
     ∙ ap reverse (map-append (edge_of v u) (take n edges) (e ∷ [])) ∙ reverse-append (edges_seen v u (take n edges)) (edge_of v u e ∷ [])
 
-judged : (v : TableView) (u : units.Unit) (edges : List Edge) (n : ℕ) (e : Edge) (b : Bool) → n < length edges → e ≡ get_or edges n e → is_outdone v u e (take n edges) (drop (n + 1) edges) ≡ b
-    → kept_behind (dominance v.entries) u (reverse (edges_seen v u (take n edges))) (edges_seen v u (drop n edges))
-    ≡ cond b (kept_behind (dominance v.entries) u (reverse (edges_seen v u (take (n + 1) edges))) (edges_seen v u (drop (n + 1) edges))) (edge_of v u e ∷ kept_behind (dominance v.entries) u (reverse (edges_seen v u (take (n + 1) edges))) (edges_seen v u (drop (n + 1) edges)))
+judged : (v : TableView) (u : units.Unit) (edges : List Edge) (n : ℕ) (e : Edge) (b : Bool) → n < length edges → e ≡ get_or edges n e → is_dominated v u e (take n edges) (drop (n + 1) edges) ≡ b
+    → kept_after (dominance v.entries) u (reverse (edges_seen v u (take n edges))) (edges_seen v u (drop n edges))
+    ≡ cond b (kept_after (dominance v.entries) u (reverse (edges_seen v u (take (n + 1) edges))) (edges_seen v u (drop (n + 1) edges))) (edge_of v u e ∷ kept_after (dominance v.entries) u (reverse (edges_seen v u (take (n + 1) edges))) (edges_seen v u (drop (n + 1) edges)))
 judged v u edges n e b within at is =
     let rest : drop n edges ≡ e ∷ drop (n + 1) edges = drop_more edges n e within ∙ ap (λ x. x ∷ drop (n + 1) edges) (sym at) in
-    ap (λ es. kept_behind (dominance v.entries) u (reverse (edges_seen v u (take n edges))) (edges_seen v u es)) rest ∙ rest_by (dominance v.entries) u (edges_seen v u (take n edges)) (edge_of v u e) (edges_seen v u (drop (n + 1) edges)) b is
-    ∙ ap (λ before. cond b (kept_behind (dominance v.entries) u before (edges_seen v u (drop (n + 1) edges))) (edge_of v u e ∷ kept_behind (dominance v.entries) u before (edges_seen v u (drop (n + 1) edges)))) (sym (front_more v u edges n e within at))
+    ap (λ es. kept_after (dominance v.entries) u (reverse (edges_seen v u (take n edges))) (edges_seen v u es)) rest ∙ rest_by (dominance v.entries) u (edges_seen v u (take n edges)) (edge_of v u e) (edges_seen v u (drop (n + 1) edges)) b is
+    ∙ ap (λ before. cond b (kept_after (dominance v.entries) u before (edges_seen v u (drop (n + 1) edges))) (edge_of v u e ∷ kept_after (dominance v.entries) u before (edges_seen v u (drop (n + 1) edges)))) (sym (front_more v u edges n e within at))
 
-kept_out : (v : TableView) (u : units.Unit) (edges kept : List Edge) (n : ℕ) (e : Edge) → n < length edges → e ≡ get_or edges n e → is_outdone v u e (take n edges) (drop (n + 1) edges) ≡ true
+kept_out : (v : TableView) (u : units.Unit) (edges kept : List Edge) (n : ℕ) (e : Edge) → n < length edges → e ≡ get_or edges n e → is_dominated v u e (take n edges) (drop (n + 1) edges) ≡ true
     → SomeKept v u edges kept n → SomeKept v u edges kept (n + 1)
 kept_out v u edges kept n e within at is some = ap (λ es. edges_seen v u kept ++ es) (sym (judged v u edges n e true within at is)) ∙ some
 
-kept_in : (v : TableView) (u : units.Unit) (edges kept : List Edge) (n : ℕ) (e : Edge) → n < length edges → e ≡ get_or edges n e → is_outdone v u e (take n edges) (drop (n + 1) edges) ≡ false
+kept_in : (v : TableView) (u : units.Unit) (edges kept : List Edge) (n : ℕ) (e : Edge) → n < length edges → e ≡ get_or edges n e → is_dominated v u e (take n edges) (drop (n + 1) edges) ≡ false
     → SomeKept v u edges kept n → SomeKept v u edges (kept ++ e ∷ []) (n + 1)
 kept_in v u edges kept n e within at is some =
-    let left : List graph.Edge = kept_behind (dominance v.entries) u (reverse (edges_seen v u (take (n + 1) edges))) (edges_seen v u (drop (n + 1) edges)) in
+    let left : List graph.Edge = kept_after (dominance v.entries) u (reverse (edges_seen v u (take (n + 1) edges))) (edges_seen v u (drop (n + 1) edges)) in
     ap (λ es. es ++ left) (map-append (edge_of v u) kept (e ∷ [])) ∙ append_assoc (edges_seen v u kept) (edge_of v u e ∷ []) left
     ∙ ap (λ es. edges_seen v u kept ++ es) (sym (judged v u edges n e false within at is)) ∙ some
 
@@ -108,7 +108,7 @@ kept_in v u edges kept n e within at is some =
 pub up_to_end : (edges : List Edge) (n : ℕ) → take (length edges - n) (drop n edges) ≡ drop n edges
 up_to_end edges n = take_all (length edges - n) (drop n edges) (omega (arith, length-drop n edges))
 
-pub kept_next : (v : TableView) (u : units.Unit) (edges kept : List Edge) (n : ℕ) (e : Edge) (b : Bool) → n < length edges → e ≡ get_or edges n e → b ≡ is_outdone v u e (take n edges) (drop (n + 1) edges)
+pub kept_next : (v : TableView) (u : units.Unit) (edges kept : List Edge) (n : ℕ) (e : Edge) (b : Bool) → n < length edges → e ≡ get_or edges n e → b ≡ is_dominated v u e (take n edges) (drop (n + 1) edges)
     → SomeKept v u edges kept n → SomeKept v u edges (kept ++ cond b [] (e ∷ [])) (n + 1)
 kept_next v u edges kept n e true within at is some = subst (λ k. SomeKept v u edges k (n + 1)) (sym (append-nil kept)) (kept_out v u edges kept n e within at (sym is) some)
 kept_next v u edges kept n e false within at is some = kept_in v u edges kept n e within at (sym is) some
@@ -132,13 +132,13 @@ known_front v edges zero known = tt
 known_front v [] (suc n) known = tt
 known_front v (e ∷ edges) (suc n) known = (known.0, known_front v edges n known.1)
 
-pub known_behind : (v : TableView) (edges : List Edge) (n : ℕ) → AreOfTable v edges → AreOfTable v (drop n edges)
-known_behind v edges zero known = known
-known_behind v [] (suc n) known = tt
-known_behind v (e ∷ edges) (suc n) known = known_behind v edges n known.1
+pub known_after : (v : TableView) (edges : List Edge) (n : ℕ) → AreOfTable v edges → AreOfTable v (drop n edges)
+known_after v edges zero known = known
+known_after v [] (suc n) known = tt
+known_after v (e ∷ edges) (suc n) known = known_after v edges n known.1
 
 -- the edges that are kept are there at the end
 pub all_kept : (v : TableView) (u : units.Unit) (edges kept : List Edge) (n : ℕ) → length edges ≤ n → SomeKept v u edges kept n → edges_seen v u kept ≡ kept_edges (dominance v.entries) u (edges_seen v u edges)
 all_kept v u edges kept n past some =
     sym (append-nil (edges_seen v u kept))
-    ∙ ap (λ es. edges_seen v u kept ++ kept_behind (dominance v.entries) u (reverse (edges_seen v u (take n edges))) (edges_seen v u es)) (sym (drop_all n edges past)) ∙ some
+    ∙ ap (λ es. edges_seen v u kept ++ kept_after (dominance v.entries) u (reverse (edges_seen v u (take n edges))) (edges_seen v u es)) (sym (drop_all n edges past)) ∙ some

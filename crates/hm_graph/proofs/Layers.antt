@@ -47,18 +47,18 @@ step_keeps bytes edges before now (s ∷ from) (hops ∷ step) keeps fits = (hop
 
 -- ---- One more
 
-one_hop : (bytes : Piece → List ℕ) (behind : List states.State) (es : List graph.Edge) (hops : List Hop) (e : graph.Edge) (h : Hop) → HopsFit bytes behind es hops → HopFits bytes behind e h → HopsFit bytes behind (es ++ e ∷ []) (hops ++ h ∷ [])
-one_hop bytes behind [] [] e h fit own = (own, tt)
-one_hop bytes behind [] (x ∷ hops) e h fit own = absurd fit
-one_hop bytes behind (d ∷ es) [] e h fit own = absurd fit
-one_hop bytes behind (d ∷ es) (x ∷ hops) e h fit own = (fit.0, one_hop bytes behind es hops e h fit.1 own)
+one_hop : (bytes : Piece → List ℕ) (after : List states.State) (es : List graph.Edge) (hops : List Hop) (e : graph.Edge) (h : Hop) → HopsFit bytes after es hops → HopFits bytes after e h → HopsFit bytes after (es ++ e ∷ []) (hops ++ h ∷ [])
+one_hop bytes after [] [] e h fit own = (own, tt)
+one_hop bytes after [] (x ∷ hops) e h fit own = absurd fit
+one_hop bytes after (d ∷ es) [] e h fit own = absurd fit
+one_hop bytes after (d ∷ es) (x ∷ hops) e h fit own = (fit.0, one_hop bytes after es hops e h fit.1 own)
 
-one_state : (bytes : Piece → List ℕ) (edges : states.State → List graph.Edge) (behind : List states.State) (from : List states.State) (step : Step) (s : states.State) (hops : List Hop)
-    → StepFits bytes edges behind from step → HopsFit bytes behind (edges s) hops → StepFits bytes edges behind (from ++ s ∷ []) (step ++ hops ∷ [])
-one_state bytes edges behind [] [] s hops fits own = (own, tt)
-one_state bytes edges behind [] (x ∷ step) s hops fits own = absurd fits
-one_state bytes edges behind (t ∷ from) [] s hops fits own = absurd fits
-one_state bytes edges behind (t ∷ from) (x ∷ step) s hops fits own = (fits.0, one_state bytes edges behind from step s hops fits.1 own)
+one_state : (bytes : Piece → List ℕ) (edges : states.State → List graph.Edge) (after : List states.State) (from : List states.State) (step : Step) (s : states.State) (hops : List Hop)
+    → StepFits bytes edges after from step → HopsFit bytes after (edges s) hops → StepFits bytes edges after (from ++ s ∷ []) (step ++ hops ∷ [])
+one_state bytes edges after [] [] s hops fits own = (own, tt)
+one_state bytes edges after [] (x ∷ step) s hops fits own = absurd fits
+one_state bytes edges after (t ∷ from) [] s hops fits own = absurd fits
+one_state bytes edges after (t ∷ from) (x ∷ step) s hops fits own = (fits.0, one_state bytes edges after from step s hops fits.1 own)
 
 one_low : (hops : List Hop) (h : Hop) → AreLowHops hops → h.len < 2 ^ 33 → AreLowHops (hops ++ h ∷ [])
 one_low [] h low own = (own, tt)
@@ -92,19 +92,19 @@ hops_more v unit es e before between now hops h are is =
       named = one_named v.entries hops h are.named is.named;
     }
 
-pub layer_next : (v : TableView) (rules : EdgeRules) (unit : Unit) (from behind now : List State) (s : State) (es : List Edge) (step : Step) (hops : List Hop)
-    → IsLayer v rules unit from behind step → AreEdgesUnder v rules unit s es → AreHops v unit es behind now hops → IsLayer v rules unit (from ++ s ∷ []) now (step ++ hops ∷ [])
-layer_next v rules unit from behind now s es step hops is edges are =
+pub layer_next : (v : TableView) (rules : EdgeRules) (unit : Unit) (from after now : List State) (s : State) (es : List Edge) (step : Step) (hops : List Hop)
+    → IsLayer v rules unit from after step → AreEdgesUnder v rules unit s es → AreHops v unit es after now hops → IsLayer v rules unit (from ++ s ∷ []) now (step ++ hops ∷ [])
+layer_next v rules unit from after now s es step hops is edges are =
     record {
       fits = λ u stands.
           let own : states.State → List graph.Edge = edges_under v.entries rules u in
-          let keeps : Keeps (states_of v behind) (states_of v now) = subst (Keeps (states_of v behind)) (sym (are.states u)) (ends_keep (states_of v behind) (edges_seen v u es)) in
+          let keeps : Keeps (states_of v after) (states_of v now) = subst (Keeps (states_of v after)) (sym (are.states u)) (ends_keep (states_of v after) (edges_seen v u es)) in
           let fit : HopsFit (piece_bytes v.entries u) (states_of v now) (own (state_of v s)) hops = subst (λ seen. HopsFit (piece_bytes v.entries u) (states_of v now) seen hops) (edges u stands) (are.fit u stands) in
           subst (λ ss. StepFits (piece_bytes v.entries u) own (states_of v now) ss (step ++ hops ∷ [])) (sym (map-append (state_of v) from (s ∷ [])))
-          (one_state (piece_bytes v.entries u) own (states_of v now) (states_of v from) step (state_of v s) hops (step_keeps (piece_bytes v.entries u) own (states_of v behind) (states_of v now) (states_of v from) step keeps (is.fits u stands)) fit);
+          (one_state (piece_bytes v.entries u) own (states_of v now) (states_of v from) step (state_of v s) hops (step_keeps (piece_bytes v.entries u) own (states_of v after) (states_of v now) (states_of v from) step keeps (is.fits u stands)) fit);
       states = λ u stands.
           let all : Edges = edges_under v.entries rules in
-          are.states u ∙ ap (with_ends (states_of v behind)) (edges u stands) ∙ ap (λ ends. with_ends ends (all u (state_of v s))) (is.states u stands)
+          are.states u ∙ ap (with_ends (states_of v after)) (edges u stands) ∙ ap (λ ends. with_ends ends (all u (state_of v s))) (is.states u stands)
           ∙ sym (layer_more all [] u (states_of v from) (state_of v s)) ∙ ap (with_layer all [] u) (sym (map-append (state_of v) from (s ∷ [])));
       nodes = are.nodes;
       low = step_low step hops is.low are.low;

@@ -35,44 +35,44 @@ grows_on a b c ab bc =
     }
 
 -- a layer is one of equal lists, and by an equal table and rules
-layer_as : (v w : TableView) (q r : EdgeRules) (unit : Unit) (from behind other after : List State) (x : MadeStep) → w ≡ v → r ≡ q → other ≡ from → after ≡ behind → IsLayer v q unit from behind x.step → IsLayer w r unit other after x.step
-layer_as v w q r unit from behind other after x of_table of_rules of_from of_behind is = subst (λ A. A) (λ i. IsLayer (sym of_table i) (sym of_rules i) unit (sym of_from i) (sym of_behind i) x.step) is
+layer_as : (v w : TableView) (q r : EdgeRules) (unit : Unit) (from following other after : List State) (x : MadeStep) → w ≡ v → r ≡ q → other ≡ from → after ≡ following → IsLayer v q unit from following x.step → IsLayer w r unit other after x.step
+layer_as v w q r unit from following other after x of_table of_rules of_from of_after is = subst (λ A. A) (λ i. IsLayer (sym of_table i) (sym of_rules i) unit (sym of_from i) (sym of_after i) x.step) is
 
 -- a number that a step has been given is that of the step of a unit from a list
-pub made_is : (a b : InternedView) (list : ℕ) (unit : Unit) (n : ℕ) (x : MadeStep) → Grows a b → list < length a.lists → x.behind < length a.lists → IsLayer a.table a.rules unit (list_at a list) (list_at a x.behind) x.step
+pub made_is : (a b : InternedView) (list : ℕ) (unit : Unit) (n : ℕ) (x : MadeStep) → Grows a b → list < length a.lists → x.after < length a.lists → IsLayer a.table a.rules unit (list_at a list) (list_at a x.after) x.step
     → n < length b.steps → made_at b n ≡ x → IsStepOf b list unit n
 made_is a b list unit n x grows within inside is there at =
     let from : IsListOf b (list_at a list) list = grows.lists list within in
-    let behind : IsListOf b (list_at a x.behind) x.behind = grows.lists x.behind inside in
+    let following : IsListOf b (list_at a x.after) x.after = grows.lists x.after inside in
     record {
       there = there;
-      behind = subst (λ y. y.behind < length b.lists) (sym at) behind.there;
-      layer = subst (λ y. IsLayer b.table b.rules unit (list_at b list) (list_at b y.behind) y.step) (sym at)
-          (layer_as a.table b.table a.rules b.rules unit (list_at a list) (list_at a x.behind) (list_at b list) (list_at b x.behind) x grows.table grows.rules from.list behind.list is);
+      after = subst (λ y. y.after < length b.lists) (sym at) following.there;
+      layer = subst (λ y. IsLayer b.table b.rules unit (list_at b list) (list_at b y.after) y.step) (sym at)
+          (layer_as a.table b.table a.rules b.rules unit (list_at a list) (list_at a x.after) (list_at b list) (list_at b x.after) x grows.table grows.rules from.list following.list is);
     }
 
 -- a step that is found with a list after it is there
-pub some_made : (m : InternedView) (x : MadeStep) (found : Option ℕ) → IfSome found (λ n. n < length m.steps) → IfSome found (HoldsAt (λ y. y.step ≡ x.step) m.steps) → IfSome found (HoldsAt (λ y. y.behind ≡ x.behind) m.steps)
+pub some_made : (m : InternedView) (x : MadeStep) (found : Option ℕ) → IfSome found (λ n. n < length m.steps) → IfSome found (HoldsAt (λ y. y.step ≡ x.step) m.steps) → IfSome found (HoldsAt (λ y. y.after ≡ x.after) m.steps)
     → IfSome found (λ n. made_at m n ≡ x)
-some_made m x None there step behind = tt
-some_made m x (Some n) there step behind = λ i. record { step = step none_made i; behind = behind none_made i }
+some_made m x None there step following = tt
+some_made m x (Some n) there step following = λ i. record { step = step none_made i; after = following none_made i }
 
 -- a list stays where it is
 pub list_kept : (a b : InternedView) (states : List State) (k : ℕ) → Grows a b → IsListOf a states k → IsListOf b states k
 list_kept a b states k grows is = let then : IsListOf b (list_at a k) k = grows.lists k is.there in record { there = then.there; list = then.list ∙ is.list }
 
 -- what a unit leads to from a list is its step once it is kept
-pub layer_kept : (a b : InternedView) (list : ℕ) (unit : Unit) (n : ℕ) (behind : List State) (step : Step) → Grows a b → list < length a.lists → IsLayer a.table a.rules unit (list_at a list) behind step
-    → n < length b.steps → IsListOf b behind (made_at b n).behind → (made_at b n).step ≡ step → IsStepOf b list unit n
-layer_kept a b list unit n behind step grows within is there at made =
+pub layer_kept : (a b : InternedView) (list : ℕ) (unit : Unit) (n : ℕ) (following : List State) (step : Step) → Grows a b → list < length a.lists → IsLayer a.table a.rules unit (list_at a list) following step
+    → n < length b.steps → IsListOf b following (made_at b n).after → (made_at b n).step ≡ step → IsStepOf b list unit n
+layer_kept a b list unit n following step grows within is there at made =
     let from : IsListOf b (list_at a list) list = grows.lists list within in
-    record { there = there; behind = at.there; layer = subst (λ A. A) (λ i. IsLayer (sym grows.table i) (sym grows.rules i) unit (sym from.list i) (sym at.list i) (sym made i)) is }
+    record { there = there; after = at.there; layer = subst (λ A. A) (λ i. IsLayer (sym grows.table i) (sym grows.rules i) unit (sym from.list i) (sym at.list i) (sym made i)) is }
 
 step_kept : (a b : InternedView) (list : ℕ) (unit : Unit) (n : ℕ) → Grows a b → list < length a.lists → IsStepOf a list unit n → IsStepOf b list unit n
 step_kept a b list unit n grows within is =
     let x : MadeStep = made_at a n in
     let made : (n < length b.steps) × (made_at b n ≡ x) = grows.steps n is.there in
-    made_is a b list unit n x grows within is.behind is.layer made.0 made.1
+    made_is a b list unit n x grows within is.after is.layer made.0 made.1
 
 pub seen_kept : (a b : InternedView) (x : KnownStep) → Grows a b → IsMemo a x → IsMemo b x
 seen_kept a b x grows is = record { from = (grows.lists x.list is.from).there; step = step_kept a b x.list x.unit x.number grows is.from is.step }
@@ -86,7 +86,7 @@ leads_kept a b list kind more to c grows is =
       ascii = is.ascii;
       from = (grows.lists list is.from).there;
       step = step_kept a b list (Character kind c None more) to.number grows is.from is.step;
-      behind = is.behind ∙ ap (λ y. y.behind) (sym (grows.steps to.number is.step.there).1);
+      after = is.after ∙ ap (λ y. y.after) (sym (grows.steps to.number is.step.there).1);
       lone = λ more_is. subst (λ t. BeginsNoPair t.entries c) (sym grows.table) (is.lone more_is);
     }
 

@@ -45,7 +45,7 @@ toward_leads m more x to first cs row known is toward = λ k d within.
     let same : (get_or x.steps.items c unknown).number ≡ to.number = toward k d within in
     let own : Leads m x.list x.kind more (get_or x.steps.items c unknown) c = row c (subst (λ n. n < 4294967295) (sym same) known) in
     let begin : Leads m x.list x.kind more (get_or x.steps.items first unknown) first = row first (subst IsKnown is known) in
-    record { ascii = own.ascii; from = own.from; step = subst (IsStepOf m x.list (Character x.kind c None more)) same own.step; behind = subst (λ r. r.behind ≡ (made_at m r.number).behind) (sym is) begin.behind; lone = own.lone }
+    record { ascii = own.ascii; from = own.from; step = subst (IsStepOf m x.list (Character x.kind c None more)) same own.step; after = subst (λ r. r.after ≡ (made_at m r.number).after) (sym is) begin.after; lone = own.lone }
 
 -- the first one alone
 pub first_leads : (m : InternedView) (more : Bool) (x : PlainRow) (to : Reached) (text : List ℕ) → IsRow m more x → IsKnown to → to ≡ get_or x.steps.items (get_or text 0 0) unknown → 0 < length text → All (Leads m x.list x.kind more to) (take 1 text)

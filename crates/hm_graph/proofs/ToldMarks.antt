@@ -7,7 +7,7 @@ use Rattle.hm_refs.proofs.Bools.{eq_of}
 use Rattle.hm_refs.specs.Names.{Entry}
 use Rattle.hm_refs.specs.Tables.{entry_at, no_entry}
 use Rattle.hm_graph.specs.Interned.{AreMarked}
-use Rattle.hm_graph.specs.Told.{is_target}
+use Rattle.hm_graph.specs.EntityFacts.{is_target}
 
 -- ---- One mark
 

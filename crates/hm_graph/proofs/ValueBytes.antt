@@ -8,7 +8,7 @@ use Rattle.std.proofs.lemmas.Bool.Decides.{nat_tests}
 use Rattle.std.proofs.lemmas.List.Folds.{list_any-append}
 use Rattle.std.proofs.lemmas.Str.{encode_ascii, encodes-chars}
 use Rattle.hm_base.specs.Bytes.{is_space}
-use Rattle.hm_edges.specs.Units.{need_for, needs_of, needs_quotes, some_dear}
+use Rattle.hm_edges.specs.Units.{need_for, needs_of, needs_quotes, some_costly}
 use Rattle.hm_edges.specs.declared.units.Need.TheVariants as need
 use Rattle.hm_refs.proofs.Bools.{eq_of}
 use Rattle.hm_refs.specs.Names.{Entry}
@@ -88,7 +88,7 @@ needs_kept t n previous c next none = λ i. record {
 pub need_same : (t : List Entry) (n : Need) (previous : Option ℕ) (c : ℕ) (next : Option ℕ) → needs_quotes c ≡ false → n ≡ need_with t needs_quotes n previous c next
 need_same t n previous c next none = rw none refl
 
-no_need : (t : List Entry) (test kind : ℕ → Bool) → AreAmong test kind → (previous : Option ℕ) (cs : List ℕ) → list_any test cs ≡ false → (list_any kind cs ≡ false) × (some_dear t kind previous cs ≡ false)
+no_need : (t : List Entry) (test kind : ℕ → Bool) → AreAmong test kind → (previous : Option ℕ) (cs : List ℕ) → list_any test cs ≡ false → (list_any kind cs ≡ false) × (some_costly t kind previous cs ≡ false)
 no_need t test kind are previous [] h = (refl, refl)
 no_need t test kind are previous (c ∷ cs) h =
     let parts = both_false (test c) (list_any test cs) h in

@@ -1,15 +1,15 @@
 -- What a value needs, found along its characters.
 use Rattle.std.proofs.Common.{◌≡◌, ◌∙◌, ℕ, Bool, true, false, ◌&&◌, ◌||◌, ◌==◌, nat_lt, List, [], ◌∷◌, length, Option, Some, None, refl, ap, bytes_eq}
 use Rattle.std.specs.List.{list_any}
-use Rattle.hm_edges.specs.Units.{need_by, need_for, needs_of, needs_quotes, some_dear}
+use Rattle.hm_edges.specs.Units.{need_by, need_for, needs_of, needs_quotes, some_costly}
 use Rattle.hm_edges.specs.declared.units.Need.{Need}
 use Rattle.hm_edges.specs.declared.units.Need.TheVariants as need
 use Rattle.hm_edges.specs.declared.units.Needs.{Needs}
 use Rattle.hm_graph.specs.Interned.{cheapens}
-use Rattle.hm_graph.specs.Told.{is_dear_need, joined}
+use Rattle.hm_graph.specs.EntityFacts.{is_costly_need, joined}
 use Rattle.hm_graph.specs.Values.{need_at, need_with, needs_at, needs_with}
 use Rattle.hm_graph_laws.specs.Units.{next_of}
-use Rattle.hm_graph_laws.specs.Forms.{gives_both, is_dear, is_second, makes_cheap}
+use Rattle.hm_graph_laws.specs.Forms.{gives_both, is_costly, is_second, makes_cheap}
 use Rattle.hm_refs.specs.Names.{Entry}
 
 -- ---- Needs of more characters
@@ -35,7 +35,7 @@ join_once n false false k true = refl
 join_once n false false k false = refl
 
 pub need_more : (t : List Entry) (kind : ℕ → Bool) (n : Need) (previous : Option ℕ) (c : ℕ) (v : List ℕ) → need_at t kind (need_with t kind n previous c (next_of v)) (Some c) v ≡ need_at t kind n previous (c ∷ v)
-need_more t kind n previous c v = join_once n (kind c) (kind c && is_dear t previous c (next_of v)) (list_any kind v) (some_dear t kind (Some c) v)
+need_more t kind n previous c v = join_once n (kind c) (kind c && is_costly t previous c (next_of v)) (list_any kind v) (some_costly t kind (Some c) v)
 
 pub needs_more : (t : List Entry) (n : Needs) (previous : Option ℕ) (c : ℕ) (v : List ℕ) → needs_at t (needs_with t n previous c (next_of v)) (Some c) v ≡ needs_at t n previous (c ∷ v)
 needs_more t n previous c v = λ i. record {
@@ -45,21 +45,21 @@ needs_more t n previous c v = λ i. record {
 }
 
 pub first_need : (t : List Entry) (kind : ℕ → Bool) (v : List ℕ) → need_at t kind need.Absent None v ≡ need_for t kind v
-first_need t kind v = by (list_any kind v) (some_dear t kind None v)
+first_need t kind v = by (list_any kind v) (some_costly t kind None v)
   where
-    by : (has dear : Bool) → joined need.Absent has dear ≡ need_by has dear
+    by : (has costly : Bool) → joined need.Absent has costly ≡ need_by has costly
     by true true = refl
     by true false = refl
     by false true = refl
     by false false = refl
 
 -- a need for dear references stays one, whatever follows
-pub dear_stays : (t : List Entry) (kind : ℕ → Bool) (n : Need) (previous : Option ℕ) (v : List ℕ) → is_dear_need n ≡ true → need_at t kind n previous v ≡ n
-dear_stays t kind need.Absent previous v dear = absurd (cc)
-dear_stays t kind need.Cheap previous v dear = absurd (cc)
-dear_stays t kind need.Dear previous v dear = by (list_any kind v) (some_dear t kind previous v)
+pub costly_stays : (t : List Entry) (kind : ℕ → Bool) (n : Need) (previous : Option ℕ) (v : List ℕ) → is_costly_need n ≡ true → need_at t kind n previous v ≡ n
+costly_stays t kind need.Absent previous v costly = absurd (cc)
+costly_stays t kind need.Cheap previous v costly = absurd (cc)
+costly_stays t kind need.Dear previous v costly = by (list_any kind v) (some_costly t kind previous v)
   where
-    by : (has dear : Bool) → joined need.Dear has dear ≡ need.Dear
+    by : (has costly : Bool) → joined need.Dear has costly ≡ need.Dear
     by true true = refl
     by true false = refl
     by false true = refl

@@ -2,7 +2,7 @@
 use Rattle.std.specs.Prelude.{◌≡◌, ℕ, ◌+◌, ◌<◌, ◌^◌, List, [], ◌∷◌, ◌++◌, Option, Some, None, length, map, slice_index_or}
 use Rattle.std.specs.List.{All}
 use Rattle.std.proofs.Math.ListN.{replicate}
-use Rattle.hm_graph_laws.specs.Layers.{first_layer, states_behind}
+use Rattle.hm_graph_laws.specs.Layers.{first_layer, states_after}
 use Rattle.hm_graph_laws.specs.Ways.{Edges}
 use Rattle.hm_refs.specs.Tables.{TableView}
 use Rattle.hm_graph_laws.specs.States as graph
@@ -65,13 +65,13 @@ pub record IsBuilding (m : InternedView) (numbers : Option (List ℕ)) (len last
   pub last_there : last < length m.lists
   pub few : len < 2 ^ 29
 
--- the steps of units lead from a layer with these states to one with the states `behind`
+-- the steps of units lead from a layer with these states to one with the states `after`
 abbrev pub Lead : Edges → (units.Unit → Piece → List ℕ) → List units.Unit → List graph.State → List Step → List graph.State → Type 0
-Lead edges bytes [] states [] behind = states ≡ behind
-Lead edges bytes [] states (step ∷ steps) behind = ⊥
-Lead edges bytes (u ∷ us) states [] behind = ⊥
-Lead edges bytes (u ∷ us) states (step ∷ steps) behind =
-    StepFits (bytes u) (edges u) (states_behind edges u states) states step × Lead edges bytes us (states_behind edges u states) steps behind
+Lead edges bytes [] states [] after = states ≡ after
+Lead edges bytes [] states (step ∷ steps) after = ⊥
+Lead edges bytes (u ∷ us) states [] after = ⊥
+Lead edges bytes (u ∷ us) states (step ∷ steps) after =
+    StepFits (bytes u) (edges u) (states_after edges u states) states step × Lead edges bytes us (states_after edges u states) steps after
 
 -- no step is there
 pub record IsBegun (b : BuildingView) : Type 0 where

@@ -19,7 +19,7 @@ use Rattle.hm_graph.specs.declared.made.KnownStep.{KnownStep}
 use Rattle.hm_graph.specs.declared.made.Reached.{Reached}
 use Rattle.hm_graph.specs.declared.plain.PlainRow.{PlainRow}
 use Rattle.hm_graph.specs.declared.rules.EdgeRules.{EdgeRules}
-use Rattle.hm_graph.specs.declared.told.Told.{Told}
+use Rattle.hm_graph.specs.declared.told.EntityFacts.{EntityFacts}
 use Rattle.hm_graph_laws.specs.Forms.{is_second, leaves_open}
 
 -- lists of states, and what was made from them
@@ -33,7 +33,7 @@ abbrev pub list_at : InternedView → ℕ → List State
 list_at m k = slice_index_or m.lists k []
 
 abbrev pub none_made : MadeStep
-none_made = record { step = []; behind = 0 }
+none_made = record { step = []; after = 0 }
 
 abbrev pub made_at : InternedView → ℕ → MadeStep
 made_at m n = slice_index_or m.steps n none_made
@@ -65,8 +65,8 @@ pub record Grows (old new : InternedView) : Type 0 where
 -- this number has the step of the unit from the states of this list
 pub record IsStepOf (m : InternedView) (list : ℕ) (unit : Unit) (n : ℕ) : Type 0 where
   pub there : n < length m.steps
-  pub behind : (made_at m n).behind < length m.lists
-  pub layer : IsLayer m.table m.rules unit (list_at m list) (list_at m (made_at m n).behind) (made_at m n).step
+  pub after : (made_at m n).after < length m.lists
+  pub layer : IsLayer m.table m.rules unit (list_at m list) (list_at m (made_at m n).after) (made_at m n).step
 
 -- it has the number of the step of its unit from its list
 pub record IsMemo (m : InternedView) (x : KnownStep) : Type 0 where
@@ -99,7 +99,7 @@ AreOf test t set = (c : ℕ) → contains nat_cmp set c ≡ list_any (test c) t
 
 -- of ASCII characters, whether it is known that no name for two code points begins with them, and whether references to them
 -- are cheap; and the characters with which names without ';' end
-pub record AreTold (t : List Entry) (told : Told) : Type 0 where
+pub record AreTold (t : List Entry) (told : EntityFacts) : Type 0 where
   pub lone : AreLone t told.lone.items
   pub cheap : AreMarked cheapens t told.cheap
   pub ends : AreOf leaves_open t told.ends
@@ -108,7 +108,7 @@ pub record AreTold (t : List Entry) (told : Told) : Type 0 where
 
 -- it isn't known where a character leads
 abbrev pub unknown : Reached
-unknown = record { number = 4294967295; behind = 0 }
+unknown = record { number = 4294967295; after = 0 }
 
 abbrev pub IsKnown : Reached → Type 0
 IsKnown to = to.number < 4294967295
@@ -123,7 +123,7 @@ pub record Leads (m : InternedView) (list : ℕ) (kind : TextKind) (more : Bool)
   pub ascii : c < 128
   pub from : list < length m.lists
   pub step : IsStepOf m list (Character kind c None more) to.number
-  pub behind : to.behind ≡ (made_at m to.number).behind
+  pub after : to.after ≡ (made_at m to.number).after
   pub lone : more ≡ true → BeginsNoPair m.table.entries c
 
 -- with each character that is known it is so

@@ -1,6 +1,6 @@
 -- What is made of a unit and the states before it: hops, a step, the states after it.
 use Rattle.std.specs.Prelude.{◌≡◌, ℕ, ◌<◌, ◌^◌, List, [], ◌∷◌, Some, map}
-use Rattle.hm_graph_laws.specs.Layers.{states_behind, with_ends, with_state}
+use Rattle.hm_graph_laws.specs.Layers.{states_after, with_ends, with_state}
 use Rattle.hm_graph_laws.specs.Ways.{Edges}
 use Rattle.hm_refs.specs.Names.{Entry}
 use Rattle.hm_refs.specs.Tables.{TableView}
@@ -58,9 +58,9 @@ abbrev pub AreEdgesUnder : TableView → EdgeRules → Unit → State → List E
 AreEdgesUnder v rules unit from es = (u : units.Unit) → StandsFor v.entries unit u → edges_seen v u es ≡ edges_under v.entries rules u (state_of v from)
 
 -- the step is that of the unit from these states to those after it
-pub record IsLayer (v : TableView) (rules : EdgeRules) (unit : Unit) (from behind : List State) (step : Step) : Type 0 where
-  pub fits : (u : units.Unit) → StandsFor v.entries unit u → StepFits (piece_bytes v.entries u) (edges_under v.entries rules u) (states_of v behind) (states_of v from) step
-  pub states : (u : units.Unit) → StandsFor v.entries unit u → states_of v behind ≡ states_behind (edges_under v.entries rules) u (states_of v from)
-  pub nodes : HaveNodes v behind
+pub record IsLayer (v : TableView) (rules : EdgeRules) (unit : Unit) (from after : List State) (step : Step) : Type 0 where
+  pub fits : (u : units.Unit) → StandsFor v.entries unit u → StepFits (piece_bytes v.entries u) (edges_under v.entries rules u) (states_of v after) (states_of v from) step
+  pub states : (u : units.Unit) → StandsFor v.entries unit u → states_of v after ≡ states_after (edges_under v.entries rules) u (states_of v from)
+  pub nodes : HaveNodes v after
   pub low : IsLowStep step
   pub named : IsNamedStep v.entries step

@@ -8,7 +8,7 @@ pub mod Runs
 pub mod Graphs
 pub mod FewHops
 pub mod Layers
-pub mod Told
+pub mod EntityFacts
 pub mod Values
 pub mod Forms
 pub mod Interned

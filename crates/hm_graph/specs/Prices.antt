@@ -12,16 +12,16 @@ use Rattle.hm_graph.specs.declared.hops.Hop.{Hop}
 
 -- the price over a hop, by the prices of the next layer
 abbrev pub price_over : Row → Hop → Option ℕ
-price_over behind h = over h.len (slice_index_or behind h.to None)
+price_over after h = over h.len (slice_index_or after h.to None)
 
 -- the least price over these hops
 abbrev pub best_price : Row → List Hop → Option ℕ
-best_price behind [] = None
-best_price behind (h ∷ hops) = lesser (price_over behind h) (best_price behind hops)
+best_price after [] = None
+best_price after (h ∷ hops) = lesser (price_over after h) (best_price after hops)
 
 -- the least prices before a step
 abbrev pub row_over : Row → Step → Row
-row_over behind step = map (best_price behind) step
+row_over after step = map (best_price after) step
 
 abbrev pub first_row : List Row → Row
 first_row [] = []
@@ -70,15 +70,15 @@ full_rows format k last (step ∷ steps) (row ∷ rows) =
 -- ---- Prices that show a bound by themselves
 
 abbrev pub KeepsHops : Option ℕ → Row → List Hop → Type 0
-KeepsHops price behind [] = Prim.Unit {0}
-KeepsHops price behind (h ∷ hops) = KeepsEdge price h.len (slice_index_or behind h.to None) × KeepsHops price behind hops
+KeepsHops price after [] = Prim.Unit {0}
+KeepsHops price after (h ∷ hops) = KeepsEdge price h.len (slice_index_or after h.to None) × KeepsHops price after hops
 
 -- a price for each state, and each keeps the rule at its hops
 abbrev pub KeepsStep : Row → Step → Row → Type 0
-KeepsStep behind [] [] = Prim.Unit {0}
-KeepsStep behind [] (price ∷ row) = ⊥
-KeepsStep behind (hops ∷ step) [] = ⊥
-KeepsStep behind (hops ∷ step) (price ∷ row) = KeepsHops price behind hops × KeepsStep behind step row
+KeepsStep after [] [] = Prim.Unit {0}
+KeepsStep after [] (price ∷ row) = ⊥
+KeepsStep after (hops ∷ step) [] = ⊥
+KeepsStep after (hops ∷ step) (price ∷ row) = KeepsHops price after hops × KeepsStep after step row
 
 abbrev pub KeepsRows : ℕ → List Step → List Row → Type 0
 KeepsRows last steps [] = ⊥

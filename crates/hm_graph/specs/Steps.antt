@@ -2,7 +2,7 @@
 use Rattle.std.specs.Prelude.{Bool, false, ◌&&◌, List}
 use Rattle.std.specs.List.{list_all}
 use Rattle.hm_base.specs.declared.plain.Format.{Format}
-use Rattle.hm_base.specs.declared.plain.Format.TheVariants.{One, Two, Three}
+use Rattle.hm_base.specs.declared.plain.Format.TheVariants.{Full, Compact, Sparse}
 use Rattle.hm_graph_laws.specs.Layers.{is_single}
 use Rattle.hm_graph.specs.declared.hops.Hop.{Hop}
 
@@ -20,6 +20,6 @@ is_single_step step = is_single step && is_forced step
 
 -- whether a certificate of a format leaves out the layer before a step, where that isn't the first one
 abbrev pub leaves_out : Format → Step → Bool
-leaves_out One step = false
-leaves_out Two step = is_single_step step
-leaves_out Three step = is_forced step
+leaves_out Full step = false
+leaves_out Compact step = is_single_step step
+leaves_out Sparse step = is_forced step

@@ -22,16 +22,16 @@ WayOver bytes (unit ∷ units) (step ∷ steps) place b =
 
 -- the place of the first hop over which a price comes; after the last where there is none
 abbrev pub place_over : Row → Option ℕ → List Hop → ℕ
-place_over behind price [] = 0
-place_over behind price (h ∷ hops) = if same_price (price_over behind h) price then 0 else suc (place_over behind price hops)
+place_over after price [] = 0
+place_over after price (h ∷ hops) = if same_price (price_over after h) price then 0 else suc (place_over after price hops)
 
 -- the place of the first hop over which the least price comes
 abbrev pub choice : Row → List Hop → ℕ
-choice behind hops = place_over behind (best_price behind hops) hops
+choice after hops = place_over after (best_price after hops) hops
 
 -- the choices before a step, where there is something to choose
 abbrev pub step_choices : Row → Step → List ℕ
-step_choices behind step = if is_forced step then [] else map (choice behind) step
+step_choices after step = if is_forced step then [] else map (choice after) step
 
 -- the choices of all layers from one on, those of the last layer first
 abbrev pub choices_of : ℕ → List Step → List ℕ
@@ -40,7 +40,7 @@ choices_of last (step ∷ steps) = choices_of last steps ++ step_choices (first_
 
 -- the hop that the first way takes from a place, by the next layer's prices
 abbrev pub hop_taken : Row → Step → ℕ → Option Hop
-hop_taken behind step place = slice_get (slice_index_or step place []) (choice behind (slice_index_or step place []))
+hop_taken after step place = slice_get (slice_index_or step place []) (choice after (slice_index_or step place []))
 
 abbrev pub along : (Piece → List ℕ) → (ℕ → List ℕ) → Option Hop → List ℕ
 along bytes more None = []

@@ -5,9 +5,9 @@ ghost use Rattle.std.specs.Str.{IsUtf8, chars};
 ghost use Rattle.hm_edges.specs.Pieces.{own_bytes};
 ghost use Rattle.hm_edges.specs.Units.{StandsFor, kind_of};
 ghost use Rattle.hm_graph.specs.Going.{Goes, GoesOver};
-ghost use Rattle.hm_parts.specs.Found.{IsFound, found_units};
-ghost use Rattle.hm_parts.specs.Parts.{HasOwn, IsPart, part_units, unit_with};
-ghost use Rattle.hm_parts.specs.Own.{own_text};
+ghost use Rattle.hm_event_parts.specs.Found.{IsFound, found_units};
+ghost use Rattle.hm_event_parts.specs.Parts.{HasOwn, IsPart, part_units, unit_with};
+ghost use Rattle.hm_event_parts.specs.UnitText.{own_text};
 ghost use Rattle.hm_graph_laws.specs.Units as units;
 ghost use Rattle.hm_graph_laws.specs.Units.{attribute_units, character_units};
 ghost use Rattle.hm_tree.specs.Views.{attributes_shown};
@@ -16,7 +16,7 @@ use crate::building::GraphBuilder;
 use crate::plain::Alike;
 use crate::visitors::Visitor;
 use hm_edges::{TextKind, Unit};
-use hm_parts::{Found, Own, Part};
+use hm_event_parts::{Found, Part, UnitText};
 use hm_tree::AttrsView;
 
 /// A graph while it is built, and its visitor.
@@ -28,7 +28,7 @@ pub(crate) struct Along<'t, V> {
 
 /// Adds the step of a unit with these bytes of its own.
 #[inline(always)]
-fn add<V: Visitor>(along: &mut Along<'_, V>, unit: &Unit, own: Own) -> Result<(), V::Stop>
+fn add<V: Visitor>(along: &mut Along<'_, V>, unit: &Unit, own: UnitText) -> Result<(), V::Stop>
     ensures { OnOk result ((u : units.Unit) → StandsFor along.old.graph.table.entries unit.now u → own_bytes u ≡ own_text own.entry → Goes V.goes_on (u ∷ []) [] along.old along.new) }
 {
     let number = along.graph.add(unit)?;
@@ -44,7 +44,7 @@ fn add_one<V: Visitor>(along: &mut Along<'_, V>, unit: &Unit, own: &str) -> Resu
     requires { HasOwn unit.now own.now }
     ensures { OnOk result (Goes V.goes_on (unit_with unit.now own.now ∷ []) [] along.old along.new) }
 {
-    add(along, unit, Own::Bytes { text: own })
+    add(along, unit, UnitText::Bytes { text: own })
 }
 
 /// Adds the step of the first character of a text, where there is one, and gives the rest of the text.
@@ -66,7 +66,7 @@ fn add_first<'s, V: Visitor>(
         along.by.take(
             along.graph.table(),
             along.graph.step(number),
-            Own::Character { c },
+            UnitText::Character { c },
         )?;
     }
     Ok(rest)
@@ -139,7 +139,7 @@ fn add_opening<V: Visitor>(along: &mut Along<'_, V>, name: &str, value: &str) ->
         len: name.len() as u32,
         needs: along.graph.needs_of(value),
     };
-    add(along, &unit, Own::Bytes { text: name })
+    add(along, &unit, UnitText::Bytes { text: name })
 }
 
 /// Adds the steps of a part.
@@ -156,7 +156,7 @@ fn add_part<V: Visitor>(along: &mut Along<'_, V>, part: &Part<'_>) -> Result<(),
             &Unit::Fixed {
                 len: text.len() as u32 + 7,
             },
-            Own::Comment { text },
+            UnitText::Comment { text },
         ),
         Part::Chars { kind, text } => add_characters(along, *kind, *text),
     }

@@ -9,8 +9,8 @@ use crate::graph::Graph;
 use crate::rules::EdgeRules;
 use crate::visitors::{NoVisitor, Visitor};
 use crate::walked::Walked;
-use hm_base::{Format, Memory, SpellRules};
-use hm_parts::find_event;
+use hm_base::{Format, OutOfMemory, SpellRules};
+use hm_event_parts::find_event;
 use hm_refs::Table;
 use hm_tree::Tree;
 use std::alloc::Global;
@@ -67,7 +67,7 @@ impl<'t> Graph<'t> {
         table: &'t Table,
         rules: SpellRules,
         format: Format,
-    ) -> Result<Graph<'t>, Memory>
+    ) -> Result<Graph<'t>, OutOfMemory>
         ensures { IfOk result (λ graph. graph.source ≡ record { tree = tree.now; table = table.now; rules = rules; format = format }) }
     {
         let (graph, _none) = Graph::visited(alloc, tree, table, rules, format, NoVisitor)?;

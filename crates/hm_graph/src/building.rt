@@ -15,7 +15,7 @@ use crate::plain::Alike;
 use crate::rules::EdgeRules;
 use crate::step::Step;
 use crate::walked::Walked;
-use hm_base::Memory;
+use hm_base::OutOfMemory;
 use hm_edges::{Needs, TextKind, Unit};
 use hm_refs::Table;
 use hm_tree::Tree;
@@ -45,7 +45,7 @@ impl<'t> Model for GraphBuilder<'t> {
 
 /// Keeps a number `count` times, where numbers are recorded.
 #[inline(always)]
-fn keep_number(numbers: &mut Option<Numbers>, number: u32, count: u32) -> Result<(), Memory>
+fn keep_number(numbers: &mut Option<Numbers>, number: u32, count: u32) -> Result<(), OutOfMemory>
     requires { IsFew numbers.old count }
     ensures ok { OnOk result (numbers.new ≡ more_numbers numbers.old count number) }
     ensures err { OnErr result (numbers.new ≡ numbers.old) }
@@ -68,7 +68,7 @@ fn no_numbers(alloc: Global, recorded: bool) -> Option<Numbers>
 }
 
 /// The runs of numbers that are recorded.
-fn runs_of(numbers: Option<Numbers>) -> Result<Vec<Run>, Memory>
+fn runs_of(numbers: Option<Numbers>) -> Result<Vec<Run>, OutOfMemory>
     requires { IsSome numbers }
     ensures runs { IfOk result (λ runs. AreRuns runs.items) }
     ensures numbers { IfOk result (λ runs. Some (unroll runs.items) ≡ numbers) }
@@ -83,7 +83,7 @@ impl<'t> GraphBuilder<'t> {
         table: &'t Table,
         rules: EdgeRules,
         recorded: bool,
-    ) -> Result<GraphBuilder<'t>, Memory>
+    ) -> Result<GraphBuilder<'t>, OutOfMemory>
         ensures table { IfOk result (λ building. building.table ≡ table.now) }
         ensures rules { IfOk result (λ building. building.rules ≡ rules) }
         ensures begun { IfOk result IsBegun }
@@ -123,16 +123,16 @@ impl<'t> GraphBuilder<'t> {
 
     /// Adds the step of a unit, and gives its number.
     #[inline(always)]
-    pub(crate) fn add(&mut self, unit: &Unit) -> Result<u32, Memory>
+    pub(crate) fn add(&mut self, unit: &Unit) -> Result<u32, OutOfMemory>
         ensures adds { IfOk result (λ n. (u : units.Unit) → StandsFor self.old.table.entries unit.now u → AddsSteps self.old self.new (u ∷ []) (numbered_step self.new n ∷ [])) }
         ensures step { IfOk result (IsMade self.new) }
     {
         if self.len >= LIMIT - 1 {
-            return Err(Memory);
+            return Err(OutOfMemory);
         }
         let number = self.interned.step(self.last, unit)?;
         keep_number(&mut self.numbers, number, 1)?;
-        let last = self.interned.behind(number);
+        let last = self.interned.after(number);
         self.last = last;
         self.len += 1;
         Ok(number)
@@ -140,32 +140,32 @@ impl<'t> GraphBuilder<'t> {
 
     /// Adds the step of a character, after which the next one stands in the same text, and gives its number.
     #[inline(always)]
-    fn add_in_front(&mut self, kind: TextKind, c: char, next: char) -> Result<u32, Memory>
+    fn add_in_front(&mut self, kind: TextKind, c: char, next: char) -> Result<u32, OutOfMemory>
         ensures adds { IfOk result (λ n. AddsSteps self.old self.new (units.character (kind_of kind) c (Some next) ∷ []) (numbered_step self.new n ∷ [])) }
         ensures step { IfOk result (IsMade self.new) }
     {
         if self.len >= LIMIT - 1 {
-            return Err(Memory);
+            return Err(OutOfMemory);
         }
         let to = self.interned.character_step(self.last, kind, c, next)?;
         keep_number(&mut self.numbers, to.number, 1)?;
-        self.last = to.behind;
+        self.last = to.after;
         self.len += 1;
         Ok(to.number)
     }
 
     /// Adds the step of the last character of a text, and gives its number.
     #[inline(always)]
-    fn add_last(&mut self, kind: TextKind, c: char) -> Result<u32, Memory>
+    fn add_last(&mut self, kind: TextKind, c: char) -> Result<u32, OutOfMemory>
         ensures adds { IfOk result (λ n. AddsSteps self.old self.new (units.character (kind_of kind) c None ∷ []) (numbered_step self.new n ∷ [])) }
         ensures step { IfOk result (IsMade self.new) }
     {
         if self.len >= LIMIT - 1 {
-            return Err(Memory);
+            return Err(OutOfMemory);
         }
         let to = self.interned.last_step(self.last, kind, c)?;
         keep_number(&mut self.numbers, to.number, 1)?;
-        self.last = to.behind;
+        self.last = to.after;
         self.len += 1;
         Ok(to.number)
     }
@@ -177,7 +177,7 @@ impl<'t> GraphBuilder<'t> {
         kind: TextKind,
         c: char,
         next: Option<char>,
-    ) -> Result<u32, Memory>
+    ) -> Result<u32, OutOfMemory>
         ensures adds { IfOk result (λ n. AddsSteps self.old self.new (units.character (kind_of kind) c next ∷ []) (numbered_step self.new n ∷ [])) }
         ensures step { IfOk result (IsMade self.new) }
     {
@@ -190,7 +190,7 @@ impl<'t> GraphBuilder<'t> {
     /// Adds the steps of characters that a text begins with, as far as they are known to lead to one place. Gives how
     /// many they are and where they lead. All are of ASCII and have the same step.
     #[inline(always)]
-    pub(crate) fn add_alike(&mut self, kind: TextKind, text: &str) -> Result<Alike, Memory>
+    pub(crate) fn add_alike(&mut self, kind: TextKind, text: &str) -> Result<Alike, OutOfMemory>
         ensures adds { IfOk result (λ alike. 0 < alike.count → AddsFront self.old self.new (kind_of kind) (chars text.now) (chars (drop alike.count text.now)) (replicate alike.count (numbered_step self.new alike.to.number))) }
         ensures within { IfOk result (λ alike. alike.count ≤ length text.now) }
         ensures ascii { IfOk result (λ alike. IsAscii (take alike.count text.now)) }
@@ -203,10 +203,10 @@ impl<'t> GraphBuilder<'t> {
             return Ok(alike);
         }
         if count >= LIMIT || self.len >= LIMIT - count {
-            return Err(Memory);
+            return Err(OutOfMemory);
         }
         keep_number(&mut self.numbers, to.number, count as u32)?;
-        self.last = to.behind;
+        self.last = to.after;
         self.len += count;
         Ok(alike)
     }
@@ -230,7 +230,7 @@ impl<'t> GraphBuilder<'t> {
     }
 
     /// The graph of the tree whose steps are recorded.
-    pub(crate) fn into_graph(self, tree: &'t Tree) -> Result<Graph<'t>, Memory>
+    pub(crate) fn into_graph(self, tree: &'t Tree) -> Result<Graph<'t>, OutOfMemory>
         requires { IsBuilt self (units_of self.rules.spell tree.now) }
         ensures source { IfOk result (λ graph. graph.source ≡ record { tree = tree.now; table = self.entry.table; rules = self.entry.rules.spell; format = self.entry.rules.format }) }
         ensures steps { IfOk result (λ graph. Some graph.steps ≡ self.entry.recorded) }

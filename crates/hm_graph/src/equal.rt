@@ -3,7 +3,7 @@ ghost use Rattle.std.specs.Prelude.{◌≡◌, ◌↔◌, IsTrue};
 ghost use Rattle.hm_edges.specs.declared.pieces.Piece.TheVariants as pieces;
 ghost use Rattle.hm_edges.specs.declared.states.Pending.TheVariants as pending;
 
-use hm_edges::{Form, Pending, Piece, State, Where};
+use hm_edges::{Pending, Piece, Quoting, State, Where};
 use hm_refs::{NameId, Node};
 
 fn is_where(one: Where, other: Where) -> bool
@@ -73,7 +73,7 @@ fn is_start_tag(one: Piece, closes: bool) -> bool
     }
 }
 
-fn is_attribute(one: Piece, gap: bool, form: Form) -> bool
+fn is_attribute(one: Piece, gap: bool, form: Quoting) -> bool
     ensures { IsTrue result → one ≡ pieces.Attribute gap form }
 {
     match one {

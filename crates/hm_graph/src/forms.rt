@@ -4,10 +4,10 @@ ghost use Rattle.hm_edges.specs.States.{state_of, where_of};
 ghost use Rattle.hm_edges.specs.Units.{StandsFor};
 ghost use Rattle.hm_graph.specs.Forms as forms;
 ghost use Rattle.hm_graph.specs.Forms.{AreNeeds, IsChange, IsFew};
-ghost use Rattle.hm_graph.specs.Told as told;
+ghost use Rattle.hm_graph.specs.EntityFacts as told;
 ghost use Rattle.hm_graph_laws.specs.Units as units;
-ghost use Rattle.hm_graph_laws.specs.Forms.{spared};
-ghost use Rattle.hm_optimality_laws.specs.Outdone.{is_nothing};
+ghost use Rattle.hm_graph_laws.specs.Forms.{saved};
+ghost use Rattle.hm_optimality_laws.specs.Dominated.{is_nothing};
 ghost use Rattle.hm_refs.specs.Names.{Entry};
 ghost use Rattle.hm_refs.specs.Tables.{TableView};
 
@@ -18,7 +18,7 @@ use hm_edges::{Need, Needs, Pending, State, Unit, Where};
 #[derive(Clone, Copy)]
 pub(crate) struct Change {
     pub(crate) added: u64,
-    pub(crate) spared: u64,
+    pub(crate) saved: u64,
 }
 
 fn is_absent(need: Need) -> bool
@@ -27,17 +27,17 @@ fn is_absent(need: Need) -> bool
     matches!(need, Need::Absent)
 }
 
-pub(crate) fn is_dear_need(need: Need) -> bool
-    ensures { result ≡ told.is_dear_need need }
+pub(crate) fn is_costly_need(need: Need) -> bool
+    ensures { result ≡ told.is_costly_need need }
 {
     matches!(need, Need::Dear)
 }
 
 /// What is spared by a form in which characters stand as themselves that need these in the other one.
-fn spared_by(one: Need, other: Need) -> u64
-    ensures { result ≡ spared (told.is_dear_need one || told.is_dear_need other) }
+fn saved_by(one: Need, other: Need) -> u64
+    ensures { result ≡ saved (told.is_costly_need one || told.is_costly_need other) }
 {
-    if is_dear_need(one) || is_dear_need(other) {
+    if is_costly_need(one) || is_costly_need(other) {
         3
     } else {
         0
@@ -45,11 +45,11 @@ fn spared_by(one: Need, other: Need) -> u64
 }
 
 /// What is spared where the form serves.
-fn change_where(serves: bool, spared: u64) -> Option<Change>
-    ensures { result ≡ forms.change_where serves spared }
+fn change_where(can_replace: bool, saved: u64) -> Option<Change>
+    ensures { result ≡ forms.change_where can_replace saved }
 {
-    if serves {
-        Some(Change { added: 0, spared })
+    if can_replace {
+        Some(Change { added: 0, saved })
     } else {
         None
     }
@@ -62,11 +62,11 @@ fn change_of_unquoted(needs: Needs, to: Where) -> Option<Change>
     match to {
         Where::InDouble => Some(Change {
             added: 1,
-            spared: spared_by(needs.single, needs.other),
+            saved: saved_by(needs.single, needs.other),
         }),
         Where::InSingle => Some(Change {
             added: 1,
-            spared: spared_by(needs.double, needs.other),
+            saved: saved_by(needs.double, needs.other),
         }),
         _ => None,
     }
@@ -80,7 +80,7 @@ fn change_of_double(needs: Needs, to: Where) -> Option<Change>
         Where::InUnquoted => change_where(is_absent(needs.single) && is_absent(needs.other), 0),
         Where::InSingle => change_where(
             is_absent(needs.single),
-            spared_by(needs.double, Need::Absent),
+            saved_by(needs.double, Need::Absent),
         ),
         _ => None,
     }
@@ -94,7 +94,7 @@ fn change_of_single(needs: Needs, to: Where) -> Option<Change>
         Where::InUnquoted => change_where(is_absent(needs.double) && is_absent(needs.other), 0),
         Where::InDouble => change_where(
             is_absent(needs.double),
-            spared_by(needs.single, Need::Absent),
+            saved_by(needs.single, Need::Absent),
         ),
         _ => None,
     }

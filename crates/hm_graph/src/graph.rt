@@ -50,9 +50,9 @@ fn leaves_out_still(format: Format, width: usize) -> bool
     ensures { IsTrue result → LeavesOutStill format width }
 {
     match format {
-        Format::One => false,
-        Format::Two => width == 1,
-        Format::Three => true,
+        Format::Full => false,
+        Format::Compact => width == 1,
+        Format::Sparse => true,
     }
 }
 

@@ -9,14 +9,14 @@ ghost use Rattle.hm_graph.specs.Interned.{BeginsNoPair, Grows, InternedView, IsL
 
 use crate::equal::is_state;
 use crate::layer::{Layer, States, find_layer};
-use crate::made::{Front, KnownStep, MadeStep, Reached, equal_made};
+use crate::made::{KnownStep, MadeStep, Reached, StepKey, equal_made};
 use crate::pairs::pair_of;
 use crate::plain::{Alike, PlainRow, keep, no_rows, none_alike, row_of};
 use crate::rules::EdgeRules;
 use crate::step::Step;
-use crate::told::{Told, told_of};
+use crate::told::{EntityFacts, entity_facts_of};
 use crate::values::needs_of;
-use hm_base::Memory;
+use hm_base::OutOfMemory;
 use hm_edges::{Need, Needs, Pending, State, TextKind, Unit, Where};
 use hm_refs::Table;
 use smallvec::SmallVec;
@@ -41,11 +41,11 @@ pub(crate) struct Interned<'t> {
     /// The steps of lists and units that were asked for.
     memo: Vec<KnownStep>,
     /// Where the memo may have a list and a unit. What is there is looked at before it is taken.
-    memo_index: HashMap<Front, u32>,
+    memo_index: HashMap<StepKey, u32>,
     /// As `memo_index`, for lists and units that have a slot in common.
     hint_slots: Vec<u32>,
     /// What the names of the table tell of ASCII characters.
-    told: Told,
+    told: EntityFacts,
     /// Where such characters lead that have another one after them.
     text_rows: Vec<PlainRow>,
     /// Where the last characters of texts lead.
@@ -121,7 +121,7 @@ fn hint_place(list: u32, unit: &Unit) -> usize {
 }
 
 /// Places for hints, with none known.
-fn no_hints(alloc: Global) -> Result<Vec<u32>, Memory> {
+fn no_hints(alloc: Global) -> Result<Vec<u32>, OutOfMemory> {
     Ok(vec![in alloc; 0; HINTS]?)
 }
 
@@ -164,7 +164,7 @@ fn number_of(lists: &[States], states: &[State]) -> Option<u32>
 }
 
 /// The list of the state before the first unit.
-fn first_lists(alloc: Global) -> Result<Vec<States>, Memory>
+fn first_lists(alloc: Global) -> Result<Vec<States>, OutOfMemory>
     ensures { IfOk result (λ lists. map (λ l. l.items) lists.items ≡ first_states ∷ []) }
 {
     let mut states = SmallVec::new(alloc);
@@ -191,7 +191,7 @@ fn character_in_front(kind: TextKind, c: char, pair: Option<char>) -> Unit
 }
 
 /// Rows in which nothing is known: for characters of texts, and for last ones.
-fn no_rows_twice(alloc: Global) -> Result<(Vec<PlainRow>, Vec<PlainRow>), Memory>
+fn no_rows_twice(alloc: Global) -> Result<(Vec<PlainRow>, Vec<PlainRow>), OutOfMemory>
     ensures text { IfOk result (λ rows. (m : InternedView) (more : Bool) → All (IsRow m more) rows.0.items) }
     ensures last { IfOk result (λ rows. (m : InternedView) (more : Bool) → All (IsRow m more) rows.1.items) }
 {
@@ -200,12 +200,12 @@ fn no_rows_twice(alloc: Global) -> Result<(Vec<PlainRow>, Vec<PlainRow>), Memory
 }
 
 /// The steps that were made, without the lists after them.
-fn steps_of(alloc: Global, all: Vec<MadeStep>) -> Result<Vec<Step>, Memory>
+fn steps_of(alloc: Global, all: Vec<MadeStep>) -> Result<Vec<Step>, OutOfMemory>
     ensures { IfOk result (λ steps. steps.items ≡ map (λ made. made.step) all.items) }
 {
     let mut steps = Vec::new(alloc);
     for made in all {
-        let MadeStep { step, behind: _ } = made;
+        let MadeStep { step, after: _ } = made;
         steps.push(step)?;
     }
     Ok(steps)
@@ -217,12 +217,12 @@ impl<'t> Interned<'t> {
         alloc: Global,
         table: &'t Table,
         rules: EdgeRules,
-    ) -> Result<Interned<'t>, Memory>
+    ) -> Result<Interned<'t>, OutOfMemory>
         ensures { IfOk result (λ interned. interned ≡ only_first table.now rules) }
     {
         let lists = first_lists(alloc)?;
         let hint_slots = no_hints(alloc)?;
-        let told = told_of(alloc, table)?;
+        let told = entity_facts_of(alloc, table)?;
         let (text_rows, last_rows) = no_rows_twice(alloc)?;
         Ok(Interned {
             alloc,
@@ -289,11 +289,11 @@ impl<'t> Interned<'t> {
 
     /// The number of the list after a step.
     #[inline(always)]
-    pub(crate) fn behind(&self, number: u32) -> u32
+    pub(crate) fn after(&self, number: u32) -> u32
         requires { number < length self.now.steps }
-        ensures { result ≡ (made_at self.now number).behind }
+        ensures { result ≡ (made_at self.now number).after }
     {
-        self.steps[number as usize].behind
+        self.steps[number as usize].after
     }
 
     /// The step of this number.
@@ -306,7 +306,7 @@ impl<'t> Interned<'t> {
     }
 
     /// The steps.
-    pub(crate) fn into_steps(self) -> Result<Vec<Step>, Memory>
+    pub(crate) fn into_steps(self) -> Result<Vec<Step>, OutOfMemory>
         ensures { IfOk result (λ steps. steps.items ≡ map (λ made. made.step) self.entry.steps) }
     {
         let Interned {
@@ -348,7 +348,7 @@ impl<'t> Interned<'t> {
     }
 
     /// The place in the memo of this list and unit and the number of their step, where they are known.
-    fn known_step(&self, front: &Front) -> Option<(u32, u32)>
+    fn known_step(&self, front: &StepKey) -> Option<(u32, u32)>
         ensures { IfSome result (λ known. IsStepOf self.now front.now.list front.now.unit known.1) }
     {
         let place = *self.memo_index.get(front)?;
@@ -357,7 +357,7 @@ impl<'t> Interned<'t> {
     }
 
     /// Lets the hint of a list and a unit point to their place in the memo.
-    fn point_hint(&mut self, front: &Front, place: u32)
+    fn point_hint(&mut self, front: &StepKey, place: u32)
         ensures { self.new ≡ self.old }
     {
         put_hint(
@@ -375,21 +375,21 @@ impl<'t> Interned<'t> {
     }
 
     /// Adds a list with these states, and gives its number.
-    fn add_list(&mut self, states: States) -> Result<u32, Memory>
+    fn add_list(&mut self, states: States) -> Result<u32, OutOfMemory>
         requires { HaveNodes self.old.table states.items }
         ensures list { IfOk result (IsListOf self.new states.items) }
         ensures kept { Grows self.old self.new }
     {
         let number = self.lists.len();
         if number >= LIMIT {
-            return Err(Memory);
+            return Err(OutOfMemory);
         }
         self.lists.push(states)?;
         Ok(number as u32)
     }
 
     /// The number of a list with these states: of an earlier one, or of one that is added.
-    fn list_of(&mut self, states: States) -> Result<u32, Memory>
+    fn list_of(&mut self, states: States) -> Result<u32, OutOfMemory>
         requires { HaveNodes self.old.table states.items }
         ensures list { IfOk result (IsListOf self.new states.items) }
         ensures kept { Grows self.old self.new }
@@ -405,25 +405,25 @@ impl<'t> Interned<'t> {
         ensures there { IfSome result (λ n. n < length self.now.steps) }
         ensures made { IfSome result (λ n. made_at self.now n ≡ made.now) }
     {
-        equal_made(self.steps.as_slice(), &made.step, made.behind)
+        equal_made(self.steps.as_slice(), &made.step, made.after)
     }
 
     /// Adds a step with the list after it, and gives its number.
-    fn add_made(&mut self, made: MadeStep) -> Result<u32, Memory>
+    fn add_made(&mut self, made: MadeStep) -> Result<u32, OutOfMemory>
         ensures there { IfOk result (λ n. n < length self.new.steps) }
         ensures made { IfOk result (λ n. made_at self.new n ≡ made) }
         ensures kept { Grows self.old self.new }
     {
         let number = self.steps.len();
         if number >= LIMIT {
-            return Err(Memory);
+            return Err(OutOfMemory);
         }
         self.steps.push(made)?;
         Ok(number as u32)
     }
 
     /// The number of a step with these hops and this list after it: of an earlier one, or of one that is added.
-    fn made_of(&mut self, made: MadeStep) -> Result<u32, Memory>
+    fn made_of(&mut self, made: MadeStep) -> Result<u32, OutOfMemory>
         ensures there { IfOk result (λ n. n < length self.new.steps) }
         ensures made { IfOk result (λ n. made_at self.new n ≡ made) }
         ensures kept { Grows self.old self.new }
@@ -435,14 +435,14 @@ impl<'t> Interned<'t> {
     }
 
     /// Notes the number of the step of a list and a unit.
-    fn note(&mut self, front: Front, number: u32) -> Result<(), Memory>
+    fn note(&mut self, front: StepKey, number: u32) -> Result<(), OutOfMemory>
         requires list { front.list < length self.old.lists }
         requires step { IsStepOf self.old front.list front.unit number }
         ensures { self.new ≡ self.old }
     {
         let place = self.memo.len();
         if place >= LIMIT {
-            return Err(Memory);
+            return Err(OutOfMemory);
         }
         self.memo.push(KnownStep {
             list: front.list,
@@ -454,11 +454,11 @@ impl<'t> Interned<'t> {
     }
 
     /// The step of a unit from the states of a list, and the states after it.
-    fn layer_of(&self, front: &Front) -> Result<(Step, States), Memory>
+    fn layer_of(&self, front: &StepKey) -> Result<(Step, States), OutOfMemory>
         requires { front.now.list < length self.now.lists }
         ensures { IfOk result (λ layer. IsLayer self.now.table self.now.rules front.now.unit (list_at self.now front.now.list) layer.1.items layer.0) }
     {
-        let Layer { hops, behind } = find_layer(
+        let Layer { hops, after } = find_layer(
             self.alloc,
             self.table,
             self.rules,
@@ -466,36 +466,36 @@ impl<'t> Interned<'t> {
             self.list(front.list),
         )?;
         let step = Step::new(self.alloc, hops)?;
-        Ok((step, behind))
+        Ok((step, after))
     }
 
     /// Keeps a step and the states after it, and gives the number of the step.
-    fn keep_layer(&mut self, step: Step, behind: States) -> Result<u32, Memory>
-        requires { HaveNodes self.old.table behind.items }
+    fn keep_layer(&mut self, step: Step, after: States) -> Result<u32, OutOfMemory>
+        requires { HaveNodes self.old.table after.items }
         ensures there { IfOk result (λ n. n < length self.new.steps) }
-        ensures behind { IfOk result (λ n. IsListOf self.new behind.items (made_at self.new n).behind) }
+        ensures after { IfOk result (λ n. IsListOf self.new after.items (made_at self.new n).after) }
         ensures step { IfOk result (λ n. (made_at self.new n).step ≡ step) }
         ensures kept { Grows self.old self.new }
     {
-        let list = self.list_of(behind)?;
-        self.made_of(MadeStep { step, behind: list })
+        let list = self.list_of(after)?;
+        self.made_of(MadeStep { step, after: list })
     }
 
     /// Makes the step of a unit from the states of a list.
-    fn make(&mut self, front: Front) -> Result<u32, Memory>
+    fn make(&mut self, front: StepKey) -> Result<u32, OutOfMemory>
         requires { front.list < length self.old.lists }
         ensures step { IfOk result (IsStepOf self.new front.list front.unit) }
         ensures kept { Grows self.old self.new }
     {
-        let (step, behind) = self.layer_of(&front)?;
-        let number = self.keep_layer(step, behind)?;
+        let (step, after) = self.layer_of(&front)?;
+        let number = self.keep_layer(step, after)?;
         self.note(front, number)?;
         Ok(number)
     }
 
     /// The step of a unit from the states of a list that has no hint: an earlier one, or one that is made.
     #[inline(never)]
-    fn step_without_hint(&mut self, front: Front) -> Result<u32, Memory>
+    fn step_without_hint(&mut self, front: StepKey) -> Result<u32, OutOfMemory>
         requires { front.list < length self.old.lists }
         ensures step { IfOk result (IsStepOf self.new front.list front.unit) }
         ensures kept { Grows self.old self.new }
@@ -509,7 +509,7 @@ impl<'t> Interned<'t> {
 
     /// The step of a unit from the states of a list: an earlier one, or one that is made.
     #[inline(always)]
-    pub(crate) fn step(&mut self, list: u32, unit: &Unit) -> Result<u32, Memory>
+    pub(crate) fn step(&mut self, list: u32, unit: &Unit) -> Result<u32, OutOfMemory>
         requires { list < length self.old.lists }
         ensures step { IfOk result (IsStepOf self.new list unit.now) }
         ensures kept { Grows self.old self.new }
@@ -517,7 +517,7 @@ impl<'t> Interned<'t> {
         if let Some(number) = self.hinted(list, unit) {
             return Ok(number);
         }
-        self.step_without_hint(Front { list, unit: *unit })
+        self.step_without_hint(StepKey { list, unit: *unit })
     }
 
     /// Where the plain characters at the start of a text lead, as far as they are known to lead to one place, each with
@@ -526,7 +526,7 @@ impl<'t> Interned<'t> {
     pub(crate) fn alike(&self, list: u32, kind: TextKind, text: &[u8]) -> Alike
         ensures within { result.count ≤ length text.now }
         ensures short { 0 < result.count → result.count < length text.now }
-        ensures back { 1 < result.count → result.to.behind ≡ list }
+        ensures back { 1 < result.count → result.to.after ≡ list }
         ensures leads { All (Leads self.now list kind true result.to) (take result.count text.now) }
     {
         match row_of(self.text_rows.as_slice(), list, kind) {
@@ -536,7 +536,13 @@ impl<'t> Interned<'t> {
     }
 
     /// Keeps where a character leads that has another one after it, and with which no name for two code points begins.
-    fn keep_text(&mut self, list: u32, kind: TextKind, c: char, to: Reached) -> Result<(), Memory>
+    fn keep_text(
+        &mut self,
+        list: u32,
+        kind: TextKind,
+        c: char,
+        to: Reached,
+    ) -> Result<(), OutOfMemory>
         requires { c < 128 → Leads self.old list kind true to c }
         ensures { self.new ≡ self.old }
     {
@@ -547,7 +553,13 @@ impl<'t> Interned<'t> {
     }
 
     /// Keeps where the last character of a text leads.
-    fn keep_last(&mut self, list: u32, kind: TextKind, c: char, to: Reached) -> Result<(), Memory>
+    fn keep_last(
+        &mut self,
+        list: u32,
+        kind: TextKind,
+        c: char,
+        to: Reached,
+    ) -> Result<(), OutOfMemory>
         requires { c < 128 → Leads self.old list kind false to c }
         ensures { self.new ≡ self.old }
     {
@@ -564,17 +576,17 @@ impl<'t> Interned<'t> {
         kind: TextKind,
         c: char,
         next: char,
-    ) -> Result<Reached, Memory>
+    ) -> Result<Reached, OutOfMemory>
         requires { list < length self.old.lists }
         ensures step { IfOk result (λ to. IsStepOf self.new list (Character kind c (units.pair_of self.old.table.entries c (Some next)) true) to.number) }
-        ensures behind { IfOk result (λ to. to.behind ≡ (made_at self.new to.number).behind) }
+        ensures after { IfOk result (λ to. to.after ≡ (made_at self.new to.number).after) }
         ensures kept { Grows self.old self.new }
     {
         let pair = self.pair_of(c, next);
         let unit = character_in_front(kind, c, pair);
         let number = self.step(list, &unit)?;
-        let behind = self.behind(number);
-        let to = Reached { number, behind };
+        let after = self.after(number);
+        let to = Reached { number, after };
         if !self.is_lone(c) {
             return Ok(to);
         }
@@ -593,10 +605,10 @@ impl<'t> Interned<'t> {
 
     /// The same, found as that of any unit. It is kept, where it can be.
     #[inline(never)]
-    fn found_last(&mut self, list: u32, kind: TextKind, c: char) -> Result<Reached, Memory>
+    fn found_last(&mut self, list: u32, kind: TextKind, c: char) -> Result<Reached, OutOfMemory>
         requires { list < length self.old.lists }
         ensures step { IfOk result (λ to. IsStepOf self.new list (Character kind c None false) to.number) }
-        ensures behind { IfOk result (λ to. to.behind ≡ (made_at self.new to.number).behind) }
+        ensures after { IfOk result (λ to. to.after ≡ (made_at self.new to.number).after) }
         ensures kept { Grows self.old self.new }
     {
         let unit = Unit::Character {
@@ -606,8 +618,8 @@ impl<'t> Interned<'t> {
             more: false,
         };
         let number = self.step(list, &unit)?;
-        let behind = self.behind(number);
-        let to = Reached { number, behind };
+        let after = self.after(number);
+        let to = Reached { number, after };
         self.keep_last(list, kind, c, to)?;
         Ok(to)
     }
@@ -619,10 +631,10 @@ impl<'t> Interned<'t> {
         list: u32,
         kind: TextKind,
         c: char,
-    ) -> Result<Reached, Memory>
+    ) -> Result<Reached, OutOfMemory>
         requires { list < length self.old.lists }
         ensures step { IfOk result (λ to. IsStepOf self.new list (Character kind c None false) to.number) }
-        ensures behind { IfOk result (λ to. to.behind ≡ (made_at self.new to.number).behind) }
+        ensures after { IfOk result (λ to. to.after ≡ (made_at self.new to.number).after) }
         ensures kept { Grows self.old self.new }
     {
         if let Some(to) = self.kept_last(list, kind, c) {

@@ -9,10 +9,10 @@ ghost use Rattle.hm_graph.specs.Steps.{Step as Hops};
 ghost use Rattle.hm_graph.specs.Layers.{AreEdgesUnder, AreHops, HaveNodes, IsHop, IsLayer, IsPlaced, states_of};
 
 use crate::Hop;
+use crate::dominated::edges_in;
 use crate::equal::is_state;
-use crate::outdone::edges_in;
 use crate::rules::EdgeRules;
-use hm_base::Memory;
+use hm_base::OutOfMemory;
 use hm_edges::{Edge, State, Unit, find_edges, piece_len};
 use hm_refs::Table;
 use smallvec::SmallVec;
@@ -34,7 +34,7 @@ fn place_in(states: &[State], state: &State) -> Option<usize>
 }
 
 /// The place of a state among these. It is added at the end where it isn't one of them.
-fn place(states: &mut States, state: &State) -> Result<usize, Memory>
+fn place(states: &mut States, state: &State) -> Result<usize, OutOfMemory>
     ensures { (v : TableView) → HaveNodes v states.old.items → HasNodes v state.now.pending → IfOk result (IsPlaced v state.now states.old.items states.new.items) }
 {
     if let Some(place) = place_in(states.as_slice(), state) {
@@ -46,13 +46,13 @@ fn place(states: &mut States, state: &State) -> Result<usize, Memory>
 }
 
 /// The hop of an edge of the unit. Its end is added to the next layer's states, where it isn't one of them.
-fn hop_of(table: &Table, unit: Unit, edge: &Edge, behind: &mut States) -> Result<Hop, Memory>
+fn hop_of(table: &Table, unit: Unit, edge: &Edge, after: &mut States) -> Result<Hop, OutOfMemory>
     requires edge { IsOfTable table.now edge.now }
-    requires nodes { HaveNodes table.now behind.old.items }
-    ensures { IfOk result (IsHop table.now unit edge.now behind.old.items behind.new.items) }
+    requires nodes { HaveNodes table.now after.old.items }
+    ensures { IfOk result (IsHop table.now unit edge.now after.old.items after.new.items) }
 {
     let len = piece_len(unit, edge.piece, table);
-    let to = place(behind, &edge.to)?;
+    let to = place(after, &edge.to)?;
     Ok(Hop {
         piece: edge.piece,
         len,
@@ -66,15 +66,15 @@ fn hops_of(
     table: &Table,
     unit: Unit,
     edges: &[Edge],
-    behind: &mut States,
-) -> Result<Vec<Hop>, Memory>
+    after: &mut States,
+) -> Result<Vec<Hop>, OutOfMemory>
     requires edges { AreOfTable table.now edges.now }
-    requires nodes { HaveNodes table.now behind.old.items }
-    ensures { IfOk result (λ hops. AreHops table.now unit edges.now behind.old.items behind.new.items hops.items) }
+    requires nodes { HaveNodes table.now after.old.items }
+    ensures { IfOk result (λ hops. AreHops table.now unit edges.now after.old.items after.new.items hops.items) }
 {
     let mut hops = Vec::new(alloc);
     for edge in edges {
-        hops.push(hop_of(table, unit, edge, behind)?)?;
+        hops.push(hop_of(table, unit, edge, after)?)?;
     }
     Ok(hops)
 }
@@ -83,7 +83,7 @@ fn hops_of(
 #[derive(Drop)]
 pub(crate) struct Layer {
     pub(crate) hops: Vec<Vec<Hop>>,
-    pub(crate) behind: States,
+    pub(crate) after: States,
 }
 
 /// The edges of a unit from a state.
@@ -93,7 +93,7 @@ fn edges_from(
     rules: EdgeRules,
     unit: Unit,
     from: State,
-) -> Result<Vec<Edge>, Memory>
+) -> Result<Vec<Edge>, OutOfMemory>
     requires { HasNodes table.now from.pending }
     ensures edges { IfOk result (λ edges. AreEdgesUnder table.now rules unit from edges.items) }
     ensures known { IfOk result (λ edges. AreOfTable table.now edges.items) }
@@ -111,14 +111,14 @@ fn hops_from(
     rules: EdgeRules,
     unit: Unit,
     from: State,
-    behind: &mut States,
-) -> Result<Vec<Hop>, Memory>
+    after: &mut States,
+) -> Result<Vec<Hop>, OutOfMemory>
     requires node { HasNodes table.now from.pending }
-    requires nodes { HaveNodes table.now behind.old.items }
-    ensures { IfOk result (λ hops. (before : List CodeState) (step : Hops) → IsLayer table.now rules unit before behind.old.items step → IsLayer table.now rules unit (before ++ from ∷ []) behind.new.items (step ++ hops.items ∷ [])) }
+    requires nodes { HaveNodes table.now after.old.items }
+    ensures { IfOk result (λ hops. (before : List CodeState) (step : Hops) → IsLayer table.now rules unit before after.old.items step → IsLayer table.now rules unit (before ++ from ∷ []) after.new.items (step ++ hops.items ∷ [])) }
 {
     let edges = edges_from(alloc, table, rules, unit, from)?;
-    hops_of(alloc, table, unit, edges.as_slice(), behind)
+    hops_of(alloc, table, unit, edges.as_slice(), after)
 }
 
 /// Adds the hops of one more state, and their ends to the next layer's states.
@@ -130,13 +130,13 @@ fn add_state(
     unit: Unit,
     from: State,
     layer: &mut Layer,
-) -> Result<(), Memory>
+) -> Result<(), OutOfMemory>
     requires node { HasNodes table.now from.pending }
-    requires nodes { HaveNodes table.now layer.old.behind.items }
-    ensures { OnOk result ((before : List CodeState) → IsLayer table.now rules unit before layer.old.behind.items (map (λ hops. hops.items) layer.old.hops.items)
-        → IsLayer table.now rules unit (before ++ from ∷ []) layer.new.behind.items (map (λ hops. hops.items) layer.new.hops.items)) }
+    requires nodes { HaveNodes table.now layer.old.after.items }
+    ensures { OnOk result ((before : List CodeState) → IsLayer table.now rules unit before layer.old.after.items (map (λ hops. hops.items) layer.old.hops.items)
+        → IsLayer table.now rules unit (before ++ from ∷ []) layer.new.after.items (map (λ hops. hops.items) layer.new.hops.items)) }
 {
-    let hops = hops_from(alloc, table, rules, unit, from, &mut layer.behind)?;
+    let hops = hops_from(alloc, table, rules, unit, from, &mut layer.after)?;
     layer.hops.push(hops)?;
     Ok(())
 }
@@ -148,13 +148,13 @@ pub(crate) fn find_layer(
     rules: EdgeRules,
     unit: Unit,
     from: &[State],
-) -> Result<Layer, Memory>
+) -> Result<Layer, OutOfMemory>
     requires { HaveNodes table.now from.now }
-    ensures { IfOk result (λ layer. IsLayer table.now rules unit from.now layer.behind.items (map (λ hops. hops.items) layer.hops.items)) }
+    ensures { IfOk result (λ layer. IsLayer table.now rules unit from.now layer.after.items (map (λ hops. hops.items) layer.hops.items)) }
 {
     let mut layer = Layer {
         hops: Vec::new(alloc),
-        behind: SmallVec::new(alloc),
+        after: SmallVec::new(alloc),
     };
     for state in from {
         add_state(alloc, table, rules, unit, *state, &mut layer)?;

@@ -11,7 +11,7 @@ const SEARCHED: usize = 256;
 
 /// A list, by its number, and a unit.
 #[derive(Clone, Copy, PartialEq, Eq, Hash)]
-pub(crate) struct Front {
+pub(crate) struct StepKey {
     pub(crate) list: u32,
     pub(crate) unit: Unit,
 }
@@ -20,7 +20,7 @@ pub(crate) struct Front {
 #[derive(Drop)]
 pub(crate) struct MadeStep {
     pub(crate) step: Step,
-    pub(crate) behind: u32,
+    pub(crate) after: u32,
 }
 
 /// The number of the step of a unit from the states of a list.
@@ -35,7 +35,7 @@ pub(crate) struct KnownStep {
 #[derive(Clone, Copy)]
 pub(crate) struct Reached {
     pub(crate) number: u32,
-    pub(crate) behind: u32,
+    pub(crate) after: u32,
 }
 
 /// Whether the two are equal.
@@ -206,16 +206,16 @@ impl KnownStep {
 }
 
 /// The place of a step with these hops and this list after it, where it is one of the first steps.
-pub(crate) fn equal_made(made: &[MadeStep], step: &Step, behind: u32) -> Option<u32>
+pub(crate) fn equal_made(made: &[MadeStep], step: &Step, after: u32) -> Option<u32>
     ensures there { IfSome result (λ n. n < length made.now) }
     ensures step { IfSome result (HoldsAt (λ x. x.step ≡ step.now) made.now) }
-    ensures behind { IfSome result (HoldsAt (λ x. x.behind ≡ behind) made.now) }
+    ensures after { IfSome result (HoldsAt (λ x. x.after ≡ after) made.now) }
 {
     for (place, other) in made.iter().enumerate() {
         if place >= SEARCHED {
             return None;
         }
-        if other.behind == behind && are_equal(&other.step, step) {
+        if other.after == after && are_equal(&other.step, step) {
             return Some(place as u32);
         }
     }

@@ -3,7 +3,7 @@ ghost use Rattle.std.specs.Prelude.{◌≡◌, ◌<◌, ◌+◌, ◌^◌, ◌++�
 ghost use Rattle.std.proofs.Math.ListN.{replicate};
 ghost use Rattle.hm_graph.specs.Runs.{AreRuns, unroll};
 
-use hm_base::Memory;
+use hm_base::OutOfMemory;
 use std::alloc::Global;
 use std::marker::Model;
 
@@ -35,7 +35,7 @@ impl Model for Numbers {
 }
 
 /// Adds a run at the end, where it isn't empty.
-fn push_run(runs: &mut Vec<Run>, run: Run) -> Result<(), Memory>
+fn push_run(runs: &mut Vec<Run>, run: Run) -> Result<(), OutOfMemory>
     requires { AreRuns runs.old.items }
     ensures runs { AreRuns runs.new.items }
     ensures ok { OnOk result (unroll runs.new.items ≡ unroll runs.old.items ++ replicate run.count run.number) }
@@ -49,7 +49,7 @@ fn push_run(runs: &mut Vec<Run>, run: Run) -> Result<(), Memory>
 }
 
 /// Makes the last run one of this number.
-fn begin_run(runs: &mut Vec<Run>, latest: &mut Run, number: u32) -> Result<(), Memory>
+fn begin_run(runs: &mut Vec<Run>, latest: &mut Run, number: u32) -> Result<(), OutOfMemory>
     requires { AreRuns runs.old.items }
     ensures runs { AreRuns runs.new.items }
     ensures number { OnOk result (latest.new.number ≡ number) }
@@ -78,7 +78,7 @@ impl Numbers {
     }
 
     /// Adds a number `count` times at the end.
-    pub(crate) fn push_alike(&mut self, number: u32, count: u32) -> Result<(), Memory>
+    pub(crate) fn push_alike(&mut self, number: u32, count: u32) -> Result<(), OutOfMemory>
         requires { length self.old + count < 2 ^ 29 }
         ensures ok { OnOk result (self.new ≡ self.old ++ replicate count number) }
         ensures err { OnErr result (self.new ≡ self.old) }
@@ -89,7 +89,7 @@ impl Numbers {
     }
 
     /// The runs.
-    pub(crate) fn into_runs(self) -> Result<Vec<Run>, Memory>
+    pub(crate) fn into_runs(self) -> Result<Vec<Run>, OutOfMemory>
         ensures runs { IfOk result (λ runs. AreRuns runs.items) }
         ensures numbers { IfOk result (λ runs. unroll runs.items ≡ self) }
     {

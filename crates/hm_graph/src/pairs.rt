@@ -4,7 +4,7 @@ ghost use Rattle.hm_refs.specs.Tables.{entry_at};
 ghost use Rattle.hm_edges.specs.Units as units;
 ghost use Rattle.hm_graph.specs.Interned.{AreLone, BeginsNoPair};
 
-use hm_base::Memory;
+use hm_base::OutOfMemory;
 use hm_refs::{NameId, Table};
 use std::alloc::Global;
 
@@ -61,7 +61,7 @@ fn begins_no_pair(table: &Table, c: char) -> bool
 }
 
 /// For each ASCII character, whether it is known that no name for two code points begins with it.
-pub(crate) fn lone_characters(alloc: Global, table: &Table) -> Result<Vec<bool>, Memory>
+pub(crate) fn lone_characters(alloc: Global, table: &Table) -> Result<Vec<bool>, OutOfMemory>
     ensures { IfOk result (λ lone. AreLone table.now.entries lone.items) }
 {
     let mut lone = Vec::new(alloc);

@@ -4,7 +4,7 @@ ghost use Rattle.std.specs.List.{All};
 ghost use Rattle.hm_graph.specs.Interned.{IsKnown, IsRow, IsToward, Leads, InternedView, unknown};
 
 use crate::made::{Reached, is_kind};
-use hm_base::Memory;
+use hm_base::OutOfMemory;
 use hm_edges::TextKind;
 use std::alloc::Global;
 
@@ -33,7 +33,7 @@ fn no_step() -> Reached
 {
     Reached {
         number: u32::MAX,
-        behind: 0,
+        after: 0,
     }
 }
 
@@ -117,7 +117,7 @@ pub(crate) fn none_alike() -> Alike
 
 impl PlainRow {
     /// Nothing is known.
-    fn of(alloc: Global, list: u32, kind: TextKind) -> Result<PlainRow, Memory>
+    fn of(alloc: Global, list: u32, kind: TextKind) -> Result<PlainRow, OutOfMemory>
         ensures list { IfOk result (λ row. row.list ≡ list) }
         ensures kind { IfOk result (λ row. row.kind ≡ kind) }
         ensures row { IfOk result (λ row. (m : InternedView) (more : Bool) → IsRow m more row) }
@@ -162,7 +162,7 @@ impl PlainRow {
     pub(crate) fn alike(&self, text: &[u8]) -> Alike
         ensures within { result.count ≤ length text.now }
         ensures short { 0 < result.count → result.count < length text.now }
-        ensures back { 1 < result.count → result.to.behind ≡ self.now.list }
+        ensures back { 1 < result.count → result.to.after ≡ self.now.list }
         ensures leads { (m : InternedView) (more : Bool) → IsRow m more self.now → All (Leads m self.now.list self.now.kind more result.to) (take result.count text.now) }
     {
         if text.len() < 2 || self.steps.len() < WIDTH {
@@ -172,7 +172,7 @@ impl PlainRow {
         if !is_known(to) {
             return none_alike();
         }
-        if to.behind != self.list {
+        if to.after != self.list {
             return Alike { to, count: 1 };
         }
         let count = alike_run(self.steps.as_slice(), to, text);
@@ -187,7 +187,7 @@ const ROWS: usize = 128;
 const NO_LIST: u32 = u32::MAX;
 
 /// Rows in which nothing is known.
-pub(crate) fn no_rows(alloc: Global) -> Result<Vec<PlainRow>, Memory>
+pub(crate) fn no_rows(alloc: Global) -> Result<Vec<PlainRow>, OutOfMemory>
     ensures { IfOk result (λ rows. (m : InternedView) (more : Bool) → All (IsRow m more) rows.items) }
 {
     let mut rows = Vec::with_capacity(alloc, ROWS)?;
@@ -241,7 +241,7 @@ fn keep_in(
     kind: TextKind,
     c: char,
     to: Reached,
-) -> Result<(), Memory>
+) -> Result<(), OutOfMemory>
     ensures { (m : InternedView) (more : Bool) → IsRow m more row.old → Leads m list kind more to c → IsRow m more row.new }
 {
     if row.is_of(list, kind) {
@@ -262,7 +262,7 @@ pub(crate) fn keep(
     kind: TextKind,
     c: char,
     to: Reached,
-) -> Result<(), Memory>
+) -> Result<(), OutOfMemory>
     ensures { (m : InternedView) (more : Bool) → All (IsRow m more) rows.old.items → Leads m list kind more to c → All (IsRow m more) rows.new.items }
 {
     let place = row_place(list, kind);

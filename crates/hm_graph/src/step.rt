@@ -8,7 +8,7 @@ ghost use Rattle.hm_graph.specs.Graphs as graphs;
 use crate::Hop;
 use crate::equal::is_piece;
 use crate::still::still_len;
-use hm_base::{Format, Memory};
+use hm_base::{Format, OutOfMemory};
 use std::alloc::Global;
 use std::marker::Model;
 use std::rc::Rc;
@@ -81,7 +81,7 @@ fn only_of(lists: &[Vec<Hop>]) -> Option<Hop>
 
 impl Step {
     /// The step with these hops of each state.
-    pub fn new(alloc: Global, lists: Vec<Vec<Hop>>) -> Result<Step, Memory>
+    pub fn new(alloc: Global, lists: Vec<Vec<Hop>>) -> Result<Step, OutOfMemory>
         ensures { IfOk result (λ step. step ≡ map (λ hops. hops.items) lists.items) }
     {
         let forced = are_forced(&lists);
@@ -97,7 +97,7 @@ impl Step {
     }
 
     /// The same step again. It shares the hops.
-    pub fn copied(&self) -> Result<Step, Memory>
+    pub fn copied(&self) -> Result<Step, OutOfMemory>
         ensures { IfOk result (λ step. step ≡ self.now) }
     {
         Ok(Step {
@@ -143,9 +143,9 @@ impl Step {
         ensures { result ≡ steps.leaves_out format self.now }
     {
         match format {
-            Format::One => false,
-            Format::Two => self.width() == 1 && self.is_forced(),
-            Format::Three => self.is_forced(),
+            Format::Full => false,
+            Format::Compact => self.width() == 1 && self.is_forced(),
+            Format::Sparse => self.is_forced(),
         }
     }
 

@@ -3,20 +3,20 @@ ghost use Rattle.std.specs.Prelude.{◌≡◌, ◌<◌, ◌||◌, List, ℕ, fal
 ghost use Rattle.std.specs.BTreeSet.{contains};
 ghost use Rattle.std.specs.Ordering.{nat_cmp};
 ghost use Rattle.hm_graph.specs.Interned.{AreMarked, AreOf, AreTold, BeginsNoPair, cheapens};
-ghost use Rattle.hm_graph.specs.Told.{is_target};
+ghost use Rattle.hm_graph.specs.EntityFacts.{is_target};
 ghost use Rattle.hm_graph_laws.specs.Forms.{leaves_open};
 ghost use Rattle.hm_refs.specs.Names.{Entry, is_closed};
 ghost use Rattle.hm_refs.specs.Tables.{entry_at};
 
 use crate::pairs::lone_characters;
-use hm_base::Memory;
+use hm_base::OutOfMemory;
 use hm_refs::{NameId, Table};
 use std::alloc::Global;
 use std::collections::BTreeSet;
 
 /// Flags for the ASCII characters, and a set of characters of any kind.
 #[derive(Drop)]
-pub(crate) struct Told {
+pub(crate) struct EntityFacts {
     /// Whether it is known that no name for two code points begins with it.
     pub(crate) lone: Vec<bool>,
     /// Whether references to it are cheap, whatever follows it.
@@ -25,7 +25,7 @@ pub(crate) struct Told {
     pub(crate) ends: BTreeSet<char>,
 }
 
-impl Told {
+impl EntityFacts {
     /// Whether it is known that no name for two code points begins with the character.
     pub(crate) fn is_lone(&self, c: char) -> bool
         ensures { (t : List Entry) → AreTold t self.now → IsTrue result → BeginsNoPair t c }
@@ -98,7 +98,7 @@ fn cheap_marks(table: &Table) -> [bool; 128]
 }
 
 /// Adds the character to the set.
-fn put(set: &mut BTreeSet<char>, target: Option<char>) -> Result<(), Memory>
+fn put(set: &mut BTreeSet<char>, target: Option<char>) -> Result<(), OutOfMemory>
     ensures { OnOk result ((c : ℕ) → contains nat_cmp set.new c ≡ (contains nat_cmp set.old c || is_target c target)) }
 {
     if let Some(c) = target {
@@ -108,7 +108,7 @@ fn put(set: &mut BTreeSet<char>, target: Option<char>) -> Result<(), Memory>
 }
 
 /// The characters with which names without `;` end.
-fn ends_of(alloc: Global, table: &Table) -> Result<BTreeSet<char>, Memory>
+fn ends_of(alloc: Global, table: &Table) -> Result<BTreeSet<char>, OutOfMemory>
     ensures { IfOk result (AreOf leaves_open table.now.entries) }
 {
     let mut ends = BTreeSet::new(alloc);
@@ -119,10 +119,10 @@ fn ends_of(alloc: Global, table: &Table) -> Result<BTreeSet<char>, Memory>
 }
 
 /// What the names of a table tell.
-pub(crate) fn told_of(alloc: Global, table: &Table) -> Result<Told, Memory>
+pub(crate) fn entity_facts_of(alloc: Global, table: &Table) -> Result<EntityFacts, OutOfMemory>
     ensures { IfOk result (AreTold table.now.entries) }
 {
-    Ok(Told {
+    Ok(EntityFacts {
         lone: lone_characters(alloc, table)?,
         cheap: cheap_marks(table),
         ends: ends_of(alloc, table)?,

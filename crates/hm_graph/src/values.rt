@@ -4,24 +4,24 @@ ghost use Rattle.std.specs.List.{list_any};
 ghost use Rattle.std.specs.Str.{chars};
 ghost use Rattle.hm_edges.specs.Units as units;
 ghost use Rattle.hm_graph.specs.Interned.{AreTold};
-ghost use Rattle.hm_graph.specs.Told.{joined};
+ghost use Rattle.hm_graph.specs.EntityFacts.{joined};
 ghost use Rattle.hm_graph.specs.Values.{is_quote, need_with, needs_with};
 ghost use Rattle.hm_graph_laws.specs.Forms as forms;
 ghost use Rattle.hm_graph_laws.specs.Units.{next_of};
 ghost use Rattle.hm_refs.specs.Names.{Entry};
 ghost use Rattle.hm_spelling_spec.specs.Characters as spots;
 
-use crate::forms::is_dear_need;
+use crate::forms::is_costly_need;
 use crate::pairs::has_pair;
-use crate::told::Told;
+use crate::told::EntityFacts;
 use hm_base::is_space;
 use hm_edges::{Need, Needs};
 use hm_refs::Table;
 use memchr::memchr2;
 
 /// Whether references to the character may be dear.
-fn may_be_dear(c: char) -> bool
-    ensures { result ≡ forms.may_be_dear c }
+fn may_be_costly(c: char) -> bool
+    ensures { result ≡ forms.may_be_costly c }
 {
     c == '\n'
         || c == '\x0c'
@@ -35,7 +35,7 @@ fn may_be_dear(c: char) -> bool
 }
 
 /// Whether some name without `;` ends with the character before.
-fn may_leave_open(told: &Told, previous: Option<char>) -> bool
+fn may_leave_open(told: &EntityFacts, previous: Option<char>) -> bool
     ensures { (t : List Entry) → AreTold t told.now → result ≡ forms.may_leave_open t previous }
 {
     match previous {
@@ -45,7 +45,7 @@ fn may_leave_open(told: &Told, previous: Option<char>) -> bool
 }
 
 /// Whether some name stands for these two code points.
-fn are_paired(table: &Table, told: &Told, c: char, d: char) -> bool
+fn are_paired(table: &Table, told: &EntityFacts, c: char, d: char) -> bool
     requires { AreTold table.now.entries told.now }
     ensures { result ≡ units.has_pair table.now.entries c d }
 {
@@ -56,7 +56,7 @@ fn are_paired(table: &Table, told: &Told, c: char, d: char) -> bool
 }
 
 /// Whether some name makes references to the character cheap before the next one.
-fn is_cheap(table: &Table, told: &Told, c: char, next: Option<char>) -> bool
+fn is_cheap(table: &Table, told: &EntityFacts, c: char, next: Option<char>) -> bool
     requires told { AreTold table.now.entries told.now }
     requires ascii { c < 128 }
     ensures { result ≡ list_any (forms.makes_cheap c next) table.now.entries }
@@ -71,11 +71,17 @@ fn is_cheap(table: &Table, told: &Told, c: char, next: Option<char>) -> bool
 }
 
 /// Whether references to the character are dear between these two.
-fn is_dear(table: &Table, told: &Told, previous: Option<char>, c: char, next: Option<char>) -> bool
+fn is_costly(
+    table: &Table,
+    told: &EntityFacts,
+    previous: Option<char>,
+    c: char,
+    next: Option<char>,
+) -> bool
     requires { AreTold table.now.entries told.now }
-    ensures { result ≡ forms.is_dear table.now.entries previous c next }
+    ensures { result ≡ forms.is_costly table.now.entries previous c next }
 {
-    if !may_be_dear(c) || is_cheap(table, told, c, next) {
+    if !may_be_costly(c) || is_cheap(table, told, c, next) {
         return false;
     }
     c != '=' || !may_leave_open(told, previous)
@@ -99,7 +105,7 @@ fn needs_quotes(c: char) -> bool
 /// A need with that of a character between these two, where it is of the kind.
 fn need_with(
     table: &Table,
-    told: &Told,
+    told: &EntityFacts,
     need: Need,
     kind: bool,
     previous: Option<char>,
@@ -107,12 +113,12 @@ fn need_with(
     next: Option<char>,
 ) -> Need
     requires { AreTold table.now.entries told.now }
-    ensures { result ≡ joined need kind (kind && forms.is_dear table.now.entries previous c next) }
+    ensures { result ≡ joined need kind (kind && forms.is_costly table.now.entries previous c next) }
 {
     if !kind || need == Need::Dear {
         return need;
     }
-    if is_dear(table, told, previous, c, next) {
+    if is_costly(table, told, previous, c, next) {
         Need::Dear
     } else {
         Need::Cheap
@@ -122,7 +128,7 @@ fn need_with(
 /// What characters need, with one more between the previous one and the rest of the value.
 fn needs_with(
     table: &Table,
-    told: &Told,
+    told: &EntityFacts,
     needs: Needs,
     previous: Option<char>,
     c: char,
@@ -145,7 +151,7 @@ fn needs_with(
 /// The need for quotes of either kind, with that of a character between the previous one and the rest of the value.
 fn other_with(
     table: &Table,
-    told: &Told,
+    told: &EntityFacts,
     need: Need,
     previous: Option<char>,
     c: char,
@@ -208,7 +214,7 @@ const NO_NEEDS: Needs = Needs {
 };
 
 /// What the characters of a value need, one after the other.
-fn needs_along(table: &Table, told: &Told, value: &str) -> Needs
+fn needs_along(table: &Table, told: &EntityFacts, value: &str) -> Needs
     requires { AreTold table.now.entries told.now }
     ensures { result ≡ units.needs_of table.now.entries (chars value.now) }
 {
@@ -229,7 +235,7 @@ fn needs_along(table: &Table, told: &Told, value: &str) -> Needs
 
 /// What the characters of a value need that stand as themselves in quotes of either kind. Most often the first one that needs quotes
 /// has dear references, and the rest isn't looked at.
-fn other_along(table: &Table, told: &Told, value: &str) -> Need
+fn other_along(table: &Table, told: &EntityFacts, value: &str) -> Need
     requires { AreTold table.now.entries told.now }
     ensures { result ≡ units.need_for table.now.entries units.needs_quotes (chars value.now) }
 {
@@ -242,7 +248,7 @@ fn other_along(table: &Table, told: &Told, value: &str) -> Need
         rest = characters.as_str();
         if let Some(c) = first {
             need = other_with(table, told, need, previous, c, rest);
-            if is_dear_need(need) {
+            if is_costly_need(need) {
                 return need;
             }
             previous = first;
@@ -252,7 +258,7 @@ fn other_along(table: &Table, told: &Told, value: &str) -> Need
 }
 
 /// What the characters of a value need of which none is a quote.
-fn needs_without_quotes(table: &Table, told: &Told, value: &str) -> Needs
+fn needs_without_quotes(table: &Table, told: &EntityFacts, value: &str) -> Needs
     requires told { AreTold table.now.entries told.now }
     requires none { list_any is_quote value.now ≡ false }
     ensures { result ≡ units.needs_of table.now.entries (chars value.now) }
@@ -265,7 +271,7 @@ fn needs_without_quotes(table: &Table, told: &Told, value: &str) -> Needs
 }
 
 /// What the characters of a value need. Most need nothing, as one look at the bytes tells, and few have quotes.
-pub(crate) fn needs_of(table: &Table, told: &Told, value: &str) -> Needs
+pub(crate) fn needs_of(table: &Table, told: &EntityFacts, value: &str) -> Needs
     requires { AreTold table.now.entries told.now }
     ensures { result ≡ units.needs_of table.now.entries (chars value.now) }
 {

@@ -4,28 +4,28 @@ ghost use Rattle.std.proofs.Math.ListN.{replicate};
 ghost use Rattle.std.specs.Str.{IsAscii};
 ghost use Rattle.hm_edges.specs.Pieces.{own_bytes};
 ghost use Rattle.hm_graph.specs.Graphs.{IsLowStep, IsNamedStep};
-ghost use Rattle.hm_parts.specs.Own.{own_text};
+ghost use Rattle.hm_event_parts.specs.UnitText.{own_text};
 ghost use Rattle.hm_refs.specs.Names.{Entry};
 ghost use Rattle.hm_graph.specs.Steps.{Step as Hops};
 ghost use Rattle.hm_graph_laws.specs.Units as units;
 ghost use Rattle.hm_graph_laws.specs.Units.{character_units};
 
 use crate::step::Step;
-use hm_base::Memory;
-use hm_parts::Own;
+use hm_base::OutOfMemory;
+use hm_event_parts::UnitText;
 use hm_refs::Table;
 
 /// A visitor that is called for each step while a graph is built.
 pub trait Visitor: Drop {
     /// Why it stops.
-    type Stop: From<Memory> + Drop;
+    type Stop: From<OutOfMemory> + Drop;
 
     // whether it goes on over these units and their steps up to the last layer, by the names of a table, and ends as the first
     // visitor is
     ghost goes_on: { Self → List Entry → List units.Unit → List Hops → Self → Type 0 };
 
     /// Takes the step of a unit with these bytes of its own.
-    fn take(&mut self, table: &Table, step: &Step, own: Own) -> Result<(), Self::Stop>
+    fn take(&mut self, table: &Table, step: &Step, own: UnitText) -> Result<(), Self::Stop>
         requires named { IsNamedStep table.now.entries step.now }
         requires low { IsLowStep step.now }
         ensures { OnOk result ((end : Self) (u : units.Unit) (more : List units.Unit) (steps : List Hops) → own_bytes u ≡ own_text own.entry
@@ -45,17 +45,22 @@ pub trait Visitor: Drop {
 pub(crate) struct NoVisitor;
 
 impl Visitor for NoVisitor {
-    type Stop = Memory;
+    type Stop = OutOfMemory;
 
     ghost goes_on = { λ _ _ _ _ _. Unit {0} };
 
     #[inline(always)]
-    fn take(&mut self, _table: &Table, _step: &Step, _own: Own) -> Result<(), Memory> {
+    fn take(&mut self, _table: &Table, _step: &Step, _own: UnitText) -> Result<(), OutOfMemory> {
         Ok(())
     }
 
     #[inline(always)]
-    fn take_alike(&mut self, _table: &Table, _step: &Step, _bytes: &[u8]) -> Result<(), Memory> {
+    fn take_alike(
+        &mut self,
+        _table: &Table,
+        _step: &Step,
+        _bytes: &[u8],
+    ) -> Result<(), OutOfMemory> {
         Ok(())
     }
 }

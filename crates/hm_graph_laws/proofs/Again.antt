@@ -4,7 +4,7 @@ use Rattle.hm_refs.specs.Names.{Entry, last_is, points_of}
 use Rattle.hm_refs.specs.Tables.{IsTable}
 use Rattle.hm_refs.proofs.Found.{entry_of, good_of, last_append}
 use Rattle.hm_spelling_spec.specs.Characters.{Spot, is_value}
-use Rattle.hm_graph_laws.specs.CharacterEdges.{behind_name}
+use Rattle.hm_graph_laws.specs.CharacterEdges.{after_name}
 use Rattle.hm_graph_laws.proofs.ChoiceLaws.{name_fits}
 use Rattle.hm_graph_laws.proofs.Numbers.{decimal_closed, hash_is, hex_closed, number_fits, number_for, number_reads, NumberAt, read_gives}
 use Rattle.hm_graph_laws.proofs.Pieces.{Refers}
@@ -22,7 +22,7 @@ pub record Again (t : List Entry) (spot : Spot) (points : List ℕ) (n : ℕ) (y
 pub name_again : (t : List Entry) → IsTable t → (spot : Spot) (points piece x y : List ℕ) → Keeps t (is_value spot) x y → IsName t spot points piece x → Again t spot points (length piece) y
 name_again t k spot points piece x y g n = record {
   piece = piece;
-  refers = name_read t k spot piece points y n.own (g spot (behind_name piece) refl (name_fits t spot piece (good_of t k piece points n.own)) n.kept);
+  refers = name_read t k spot piece points y n.own (g spot (after_name piece) refl (name_fits t spot piece (good_of t k piece points n.own)) n.kept);
   short = omega arith;
 }
 
@@ -37,8 +37,8 @@ again_one t k spot c piece x y g r = by_kind (reference_is t k spot (c ∷ []) p
       short = m.short;
     }
 
-name_to_closed : (m : List ℕ) → last_is 59 m ≡ true → behind_name m ≡ nothing
-unfolding behind_name
+name_to_closed : (m : List ℕ) → last_is 59 m ≡ true → after_name m ≡ nothing
+unfolding after_name
 name_to_closed m h = rw h refl
 
 -- a name without ';' has its form with ';'

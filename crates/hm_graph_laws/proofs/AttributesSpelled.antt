@@ -3,19 +3,19 @@ use Rattle.std.proofs.Common.{◌≡◌, ℕ, Bool, true, false, cond, ◌&&◌,
 use Rattle.hm_base.specs.Bytes.{lower}
 use Rattle.hm_base.specs.Walks.{Attribute}
 use Rattle.hm_markup_spec.specs.Gaps.{is_gap}
-use Rattle.hm_markup_spec.specs.Tags.{bare, double, Form, IsAssigned, parts_slash, single, tag_end, unquoted, WritesAttribute, WritesAttributes}
+use Rattle.hm_markup_spec.specs.Tags.{bare, double, Quoting, IsAssigned, parts_slash, single, tag_end, unquoted, WritesAttribute, WritesAttributes}
 use Rattle.hm_refs.specs.Tables.{first, IsIn, IsTable, later}
 use Rattle.hm_spelling_spec.specs.Characters.{SpellsPoints}
 use Rattle.hm_spelling_spec.specs.Tags.{character_rules, Spelling, SpellsValue}
-use Rattle.hm_graph_laws.specs.AttributeEdges.{closed_at, gap_at, is_behind_unquoted, opening_edges}
-use Rattle.hm_graph_laws.specs.AttributeLaws.{AreLow, behind_tag, HasTagEdges, TagSpelled, TagsSpell}
+use Rattle.hm_graph_laws.specs.AttributeEdges.{closed_at, gap_at, is_after_unquoted, opening_edges}
+use Rattle.hm_graph_laws.specs.AttributeLaws.{AreLow, state_after_tag, HasTagEdges, TagSpelled, TagsSpell}
 use Rattle.hm_graph_laws.specs.CharacterLaws.{IsEnd, keeps_at, MayStand}
 use Rattle.hm_graph_laws.proofs.Ends.{ways_end}
 use Rattle.hm_graph_laws.proofs.In.{in_append, only}
 use Rattle.hm_graph_laws.proofs.Numbers.{two_in}
 use Rattle.hm_graph_laws.proofs.CharactersSpelled.{ways_spell}
 use Rattle.hm_graph_laws.specs.Edges.{Edge, edge, edge_to}
-use Rattle.hm_graph_laws.specs.States.{behind_name, behind_quoted, behind_unquoted, first_state, in_double, in_single, in_unquoted, nothing, self_closed, State, state, value_spot, Where}
+use Rattle.hm_graph_laws.specs.States.{after_name, after_quoted, after_unquoted, first_state, in_double, in_single, in_unquoted, nothing, self_closed, State, state, value_spot, Where}
 use Rattle.hm_graph_laws.specs.Steps.{may_end}
 use Rattle.hm_graph_laws.specs.Units.{attribute_end, attribute_units, character_units, in_value, tag_close, tag_name}
 use Rattle.hm_graph_laws.specs.UnitWays.{WayTo}
@@ -23,7 +23,7 @@ use Rattle.hm_graph_laws.specs.Ways.{Edges}
 use Rattle.hm_graph_laws.proofs.Closing.{closing_law}
 use Rattle.hm_graph_laws.proofs.Splits.{Parted, way_parts}
 use Rattle.hm_graph_laws.proofs.ValueEnds.{attributes_close, Closes, end_closes}
-use Rattle.hm_graph_laws.proofs.AttributeForms.{behind_form, bracket_closes, gap_parts, no_gap, slash_bytes, slash_gap, slash_parts, spot_value}
+use Rattle.hm_graph_laws.proofs.AttributeForms.{after_form, bracket_closes, gap_parts, no_gap, slash_bytes, slash_gap, slash_parts, spot_value}
 
 module _ (g : Spelling) (table : IsTable g.table) (es : Edges) (has : HasTagEdges g es) where
   -- ---- values
@@ -36,7 +36,7 @@ module _ (g : Spelling) (table : IsTable g.table) (es : Edges) (has : HasTagEdge
     spells : (x : List ℕ) → Closes (close.bytes ++ x) → SpellsPoints g.table (character_rules g) (value_spot at) cs written (close.bytes ++ x)
 
   value_way : (at : Where) (close : Edge) (cs b : List ℕ) (to : State) → closed_at at ≡ close ∷ [] → MayStand g.table in_value (state at nothing) → WayTo es (character_units in_value cs ++ attribute_end ∷ []) (state at nothing) b to → ValueWay at close cs b to
-  value_way at close cs b to closed stands w = by_way p.behind
+  value_way at close cs b to closed stands w = by_way p.after
     where
       p : Parted es (character_units in_value cs) (attribute_end ∷ []) (state at nothing) b to
       p = way_parts es (character_units in_value cs) (attribute_end ∷ []) (state at nothing) b to w
@@ -67,13 +67,13 @@ module _ (g : Spelling) (table : IsTable g.table) (es : Edges) (has : HasTagEdge
   -- ---- attributes
 
   -- the first attribute, and the way (path through the layered graph) after it
-  record First (before : Form) (a : Attribute) (attributes : List Attribute) (b : List ℕ) (to : State) : Type 0 where
-    form : Form
+  record First (before : Quoting) (a : Attribute) (attributes : List Attribute) (b : List ℕ) (to : State) : Type 0 where
+    form : Quoting
     left : List ℕ
     right : List ℕ
     whole : b ≡ left ++ right
     writes : (x : List ℕ) → (form ≡ unquoted → Closes x) → WritesAttribute (SpellsValue g) g.rules.tight before form a left x
-    behind : WayTo es (attribute_units attributes) (state (behind_form form) nothing) right to
+    following : WayTo es (attribute_units attributes) (state (after_form form) nothing) right to
 
   abbrev bare_edge : List ℕ → Where → Edge
   bare_edge n at = edge (gap_at g.rules.tight at ++ (n ++ codes "=")) in_unquoted nothing
@@ -114,12 +114,12 @@ module _ (g : Spelling) (table : IsTable g.table) (es : Edges) (has : HasTagEdge
   join_parts : (gap n opening left inner : List ℕ) → left ≡ inner → (gap ++ (n ++ opening)) ++ left ≡ gap ++ (n ++ (opening ++ inner))
   join_parts gap n opening left inner is = append_assoc gap (n ++ opening) left ∙ ap (λ y. gap ++ y) (append_assoc n opening left ∙ ap (λ y. n ++ (opening ++ y)) is)
 
-  valued : (before : Form) (n : List ℕ) (c : ℕ) (s : List ℕ) (attributes : List Attribute) (b : List ℕ) (to : State) → map lower n ≡ n → (e : Edge) (rest : List ℕ) → IsOpening n (behind_form before) e → b ≡ e.bytes ++ rest
+  valued : (before : Quoting) (n : List ℕ) (c : ℕ) (s : List ℕ) (attributes : List Attribute) (b : List ℕ) (to : State) → map lower n ≡ n → (e : Edge) (rest : List ℕ) → IsOpening n (after_form before) e → b ≡ e.bytes ++ rest
       → WayTo es ((character_units in_value (chars (c ∷ s)) ++ attribute_end ∷ []) ++ attribute_units attributes) e.to rest to → First before (record { name = n; value = c ∷ s }) attributes b to
   valued before n c s attributes b to low e rest (no_quote allowed same) is w =
-      let gap = gap_at g.rules.tight (behind_form before) in
+      let gap = gap_at g.rules.tight (after_form before) in
       let p = way_parts es (character_units in_value (chars (c ∷ s)) ++ attribute_end ∷ []) (attribute_units attributes) (state in_unquoted nothing) rest to (subst (λ x. WayTo es ((character_units in_value (chars (c ∷ s)) ++ attribute_end ∷ []) ++ attribute_units attributes) x.to rest to) same w) in
-      let v = value_way in_unquoted (edge [] behind_unquoted nothing) (chars (c ∷ s)) p.left p.middle refl (record { place = refl; fits = tt }) p.before in
+      let v = value_way in_unquoted (edge [] after_unquoted nothing) (chars (c ∷ s)) p.left p.middle refl (record { place = refl; fits = tt }) p.before in
       record {
         form = unquoted;
         left = (gap ++ (n ++ codes "=")) ++ p.left;
@@ -134,12 +134,12 @@ module _ (g : Spelling) (table : IsTable g.table) (es : Edges) (has : HasTagEdge
           lowered = low;
           assigned = record { written = v.written; is = assigned v.written; allowed = allowed; some = refl; spells = v.spells x (closes refl) };
         };
-        behind = subst (λ m. WayTo es (attribute_units attributes) m p.right to) v.leads p.behind;
+        after = subst (λ m. WayTo es (attribute_units attributes) m p.right to) v.leads p.after;
       }
   valued before n c s attributes b to low e rest (double_quote same) is w =
-      let gap = gap_at g.rules.tight (behind_form before) in
+      let gap = gap_at g.rules.tight (after_form before) in
       let p = way_parts es (character_units in_value (chars (c ∷ s)) ++ attribute_end ∷ []) (attribute_units attributes) (state in_double nothing) rest to (subst (λ x. WayTo es ((character_units in_value (chars (c ∷ s)) ++ attribute_end ∷ []) ++ attribute_units attributes) x.to rest to) same w) in
-      let v = value_way in_double (edge (34 ∷ []) behind_quoted nothing) (chars (c ∷ s)) p.left p.middle refl (record { place = refl; fits = tt }) p.before in
+      let v = value_way in_double (edge (34 ∷ []) after_quoted nothing) (chars (c ∷ s)) p.left p.middle refl (record { place = refl; fits = tt }) p.before in
       record {
         form = double;
         left = (gap ++ (n ++ codes "=\"")) ++ p.left;
@@ -154,12 +154,12 @@ module _ (g : Spelling) (table : IsTable g.table) (es : Edges) (has : HasTagEdge
           lowered = low;
           assigned = record { written = v.written; is = assigned (34 ∷ (v.written ++ 34 ∷ [])); spells = v.spells x (record { byte = 34; rest = x; is = refl; among = first _ }) };
         };
-        behind = subst (λ m. WayTo es (attribute_units attributes) m p.right to) v.leads p.behind;
+        after = subst (λ m. WayTo es (attribute_units attributes) m p.right to) v.leads p.after;
       }
   valued before n c s attributes b to low e rest (single_quote same) is w =
-      let gap = gap_at g.rules.tight (behind_form before) in
+      let gap = gap_at g.rules.tight (after_form before) in
       let p = way_parts es (character_units in_value (chars (c ∷ s)) ++ attribute_end ∷ []) (attribute_units attributes) (state in_single nothing) rest to (subst (λ x. WayTo es ((character_units in_value (chars (c ∷ s)) ++ attribute_end ∷ []) ++ attribute_units attributes) x.to rest to) same w) in
-      let v = value_way in_single (edge (39 ∷ []) behind_quoted nothing) (chars (c ∷ s)) p.left p.middle refl (record { place = refl; fits = tt }) p.before in
+      let v = value_way in_single (edge (39 ∷ []) after_quoted nothing) (chars (c ∷ s)) p.left p.middle refl (record { place = refl; fits = tt }) p.before in
       record {
         form = single;
         left = (gap ++ (n ++ codes "='")) ++ p.left;
@@ -174,35 +174,35 @@ module _ (g : Spelling) (table : IsTable g.table) (es : Edges) (has : HasTagEdge
           lowered = low;
           assigned = record { written = v.written; is = assigned (39 ∷ (v.written ++ 39 ∷ [])); spells = v.spells x (record { byte = 39; rest = x; is = refl; among = later 34 _ (first _) }) };
         };
-        behind = subst (λ m. WayTo es (attribute_units attributes) m p.right to) v.leads p.behind;
+        after = subst (λ m. WayTo es (attribute_units attributes) m p.right to) v.leads p.after;
       }
 
-  first_attribute : (before : Form) (n v : List ℕ) (attributes : List Attribute) (b : List ℕ) (to : State) → map lower n ≡ n → WayTo es (attribute_units (record { name = n; value = v } ∷ attributes)) (state (behind_form before) nothing) b to
+  first_attribute : (before : Quoting) (n v : List ℕ) (attributes : List Attribute) (b : List ℕ) (to : State) → map lower n ≡ n → WayTo es (attribute_units (record { name = n; value = v } ∷ attributes)) (state (after_form before) nothing) b to
       → First before (record { name = n; value = v }) attributes b to
   first_attribute before n [] attributes b to low (e, i, (rest, is, w)) =
-      let gap = gap_at g.rules.tight (behind_form before) in
-      let here = only e (edge (gap ++ n) behind_name nothing) (subst (λ l. IsIn e l) (has.bare_ones n (state (behind_form before) nothing)) i) in
+      let gap = gap_at g.rules.tight (after_form before) in
+      let here = only e (edge (gap ++ n) after_name nothing) (subst (λ l. IsIn e l) (has.bare_ones n (state (after_form before) nothing)) i) in
       record {
         form = bare;
         left = gap ++ n;
         right = rest;
         whole = is ∙ ap (λ x. x.bytes ++ rest) here;
         writes = λ x closes. record { gap = gap; name = n; value = []; is = ap (λ y. gap ++ y) (sym (append-nil n)); apart = gap_parts g.rules.tight before; lowered = low; assigned = (refl, refl) };
-        behind = subst (λ x. WayTo es (attribute_units attributes) x.to rest to) here w;
+        after = subst (λ x. WayTo es (attribute_units attributes) x.to rest to) here w;
       }
   first_attribute before n (c ∷ s) attributes b to low (e, i, (rest, is, w)) =
-      valued before n c s attributes b to low e rest (opening_is n (behind_form before) e (subst (λ l. IsIn e l) (has.openings n (chars (c ∷ s)) (state (behind_form before) nothing)) i)) is w
+      valued before n c s attributes b to low e rest (opening_is n (after_form before) e (subst (λ l. IsIn e l) (has.openings n (chars (c ∷ s)) (state (after_form before) nothing)) i)) is w
 
-  record AttributesSpelled (before : Form) (attributes : List Attribute) (b : List ℕ) (to : State) : Type 0 where
-    last : Form
-    leads : to ≡ state (behind_form last) nothing
+  record AttributesSpelled (before : Quoting) (attributes : List Attribute) (b : List ℕ) (to : State) : Type 0 where
+    last : Quoting
+    leads : to ≡ state (after_form last) nothing
     writes : (x : List ℕ) → (last ≡ unquoted → Closes x) → WritesAttributes (SpellsValue g) g.rules.tight before last attributes b x
 
-  attributes_spelled : (attributes : List Attribute) → AreLow attributes → (before : Form) (b : List ℕ) (to : State) → WayTo es (attribute_units attributes) (state (behind_form before) nothing) b to → AttributesSpelled before attributes b to
+  attributes_spelled : (attributes : List Attribute) → AreLow attributes → (before : Quoting) (b : List ℕ) (to : State) → WayTo es (attribute_units attributes) (state (after_form before) nothing) b to → AttributesSpelled before attributes b to
   attributes_spelled [] low before b to (none, same) = record { last = before; leads = sym same; writes = λ x closes. (refl, none) }
   attributes_spelled (a ∷ attributes) low before b to w =
       let f = first_attribute before a.name a.value attributes b to low.0 w in
-      let m = attributes_spelled attributes low.1 f.form f.right to f.behind in
+      let m = attributes_spelled attributes low.1 f.form f.right to f.after in
       record {
         last = m.last;
         leads = m.leads;
@@ -219,23 +219,23 @@ module _ (g : Spelling) (table : IsTable g.table) (es : Edges) (has : HasTagEdge
   -- ---- the tag
 
   -- what ends a tag
-  record Ended (closes : Bool) (last : Form) (b : List ℕ) (to : State) : Type 0 where
+  record Ended (closes : Bool) (last : Quoting) (b : List ℕ) (to : State) : Type 0 where
     slash : Bool
     gap : List ℕ
     whole : b ≡ gap ++ tag_end slash
     apart : is_gap (slash && parts_slash last) gap ≡ true
-    leads : to ≡ behind_tag slash
+    leads : to ≡ state_after_tag slash
     may : slash ≡ true → closes ≡ true
     closing : (x : List ℕ) → last ≡ unquoted → Closes (gap ++ (tag_end slash ++ x))
 
   abbrev plain_end : Edge
   plain_end = edge_to (62 ∷ []) first_state
 
-  abbrev slashed_end : Form → Edge
-  slashed_end last = edge (cond (is_behind_unquoted (behind_form last)) (codes " />") (codes "/>")) self_closed nothing
+  abbrev slashed_end : Quoting → Edge
+  slashed_end last = edge (cond (is_after_unquoted (after_form last)) (codes " />") (codes "/>")) self_closed nothing
 
-  ended : (closes : Bool) (last : Form) (b : List ℕ) (to : State) → WayTo es (tag_close closes ∷ []) (state (behind_form last) nothing) b to → Ended closes last b to
-  ended closes last b to (e, i, (rest, is, (none, same))) = by_closes closes refl (subst (λ l. IsIn e l) (has.ends closes (state (behind_form last) nothing)) i)
+  ended : (closes : Bool) (last : Quoting) (b : List ℕ) (to : State) → WayTo es (tag_close closes ∷ []) (state (after_form last) nothing) b to → Ended closes last b to
+  ended closes last b to (e, i, (rest, is, (none, same))) = by_closes closes refl (subst (λ l. IsIn e l) (has.ends closes (state (after_form last) nothing)) i)
     where
       bytes : (f : Edge) → e ≡ f → b ≡ f.bytes
       bytes f h = is ∙ ap (λ y. e.bytes ++ y) none ∙ append-nil e.bytes ∙ ap (λ x. x.bytes) h
@@ -276,10 +276,10 @@ module _ (g : Spelling) (table : IsTable g.table) (es : Edges) (has : HasTagEdge
   tag_spelled : (n : List ℕ) (attributes : List Attribute) (closes : Bool) (from to : State) (b after : List ℕ) → map lower n ≡ n → AreLow attributes → WayTo es (tag_name n ∷ (attribute_units attributes ++ tag_close closes ∷ [])) from b to
       → TagSpelled g n attributes closes to b after
   tag_spelled n attributes closes from to b after low lows (e, i, (rest, is, w)) =
-      let here = only e (edge (60 ∷ n) behind_name nothing) (subst (λ l. IsIn e l) (has.names n from) i) in
-      let p = way_parts es (attribute_units attributes) (tag_close closes ∷ []) (state behind_name nothing) rest to (subst (λ x. WayTo es (attribute_units attributes ++ tag_close closes ∷ []) x.to rest to) here w) in
+      let here = only e (edge (60 ∷ n) after_name nothing) (subst (λ l. IsIn e l) (has.names n from) i) in
+      let p = way_parts es (attribute_units attributes) (tag_close closes ∷ []) (state after_name nothing) rest to (subst (λ x. WayTo es (attribute_units attributes ++ tag_close closes ∷ []) x.to rest to) here w) in
       let m = attributes_spelled attributes lows bare p.left p.middle p.before in
-      let f = ended closes m.last p.right to (subst (λ s. WayTo es (tag_close closes ∷ []) s p.right to) m.leads p.behind) in
+      let f = ended closes m.last p.right to (subst (λ s. WayTo es (tag_close closes ∷ []) s p.right to) m.leads p.after) in
       let cut = tag_bytes b n rest p.left p.right (f.gap ++ tag_end f.slash) (is ∙ ap (λ x. x.bytes ++ rest) here) p.whole f.whole in
       record {
         slash = f.slash;

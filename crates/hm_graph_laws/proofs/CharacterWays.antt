@@ -4,7 +4,7 @@ use Rattle.hm_base.specs.Bytes.{is_null}
 use Rattle.hm_refs.specs.Names.{Entry}
 use Rattle.hm_refs.specs.Tables.{IsIn, first, later}
 use Rattle.hm_spelling_spec.specs.Characters.{CharacterRules, Spot, is_foreign, is_writable}
-use Rattle.hm_graph_laws.specs.CharacterEdges.{Choice, choices, half_of, in_section_behind, is_in_section, is_outside, kept_at, character_edges, outside_edges, opened_sections, section_edges, section_edges_by, closes_section, spot_at}
+use Rattle.hm_graph_laws.specs.CharacterEdges.{Choice, choices, half_of, in_section_after, is_in_section, is_outside, kept_at, character_edges, outside_edges, opened_sections, section_edges, section_edges_by, closes_section, spot_at}
 use Rattle.hm_graph_laws.specs.CharacterLaws.{HasCharacterEdges}
 use Rattle.hm_graph_laws.specs.Edges.{Edge, edge, edge_to}
 use Rattle.hm_graph_laws.specs.States.{Where, in_section, Pending, nothing, State, first_state, state}
@@ -99,13 +99,13 @@ opening_in t rules kind at c next p e h o i =
 
 pub data IsSectionEdge (front : List ℕ) (c : ℕ) (cs : List ℕ) (p : Pending) (e : Edge) : Type 0 where
   closes : e ≡ edge_to (front ++ (encode_utf8 c ++ codes "]]>")) first_state → IsSectionEdge front c cs p e
-  goes_on : is_null cs ≡ false → e ≡ edge (front ++ encode_utf8 c) in_section (in_section_behind c p) → IsSectionEdge front c cs p e
+  goes_on : is_null cs ≡ false → e ≡ edge (front ++ encode_utf8 c) in_section (in_section_after c p) → IsSectionEdge front c cs p e
 
 pub section_edge_is : (front : List ℕ) (c : ℕ) (cs : List ℕ) (p : Pending) (e : Edge) → IsIn e (section_edges_by (next_of cs) front c p) → IsSectionEdge front c cs p e
 section_edge_is front c [] p e i = closes (only e (edge_to (front ++ (encode_utf8 c ++ codes "]]>")) first_state) i)
-section_edge_is front c (d ∷ cs) p e i = by_two (two_in e (edge (front ++ encode_utf8 c) in_section (in_section_behind c p)) (edge_to (front ++ (encode_utf8 c ++ codes "]]>")) first_state) i)
+section_edge_is front c (d ∷ cs) p e i = by_two (two_in e (edge (front ++ encode_utf8 c) in_section (in_section_after c p)) (edge_to (front ++ (encode_utf8 c ++ codes "]]>")) first_state) i)
   where
-    by_two : (e ≡ edge (front ++ encode_utf8 c) in_section (in_section_behind c p)) ⊎ (e ≡ edge_to (front ++ (encode_utf8 c ++ codes "]]>")) first_state) → IsSectionEdge front c (d ∷ cs) p e
+    by_two : (e ≡ edge (front ++ encode_utf8 c) in_section (in_section_after c p)) ⊎ (e ≡ edge_to (front ++ (encode_utf8 c ++ codes "]]>")) first_state) → IsSectionEdge front c (d ∷ cs) p e
     by_two (inl is) = goes_on refl is
     by_two (inr is) = closes is
 

@@ -6,7 +6,7 @@ use Rattle.hm_base.specs.Forms.{has_mark}
 use Rattle.hm_refs.specs.Names.{Entry}
 use Rattle.hm_refs.specs.Tables.{IsIn, IsTable}
 use Rattle.hm_spelling_spec.specs.Characters.{CharacterRules, is_foreign, is_section, is_writable, IsAllowed, Piece, itself, reference_to, section, piece_bytes, piece_points, SpellsPoints}
-use Rattle.hm_graph_laws.specs.CharacterEdges.{Choice, behind_half, choice, in_section_behind, is_in_section, kept_at, spot_at, character_edges}
+use Rattle.hm_graph_laws.specs.CharacterEdges.{Choice, after_half, choice, in_section_after, is_in_section, kept_at, spot_at, character_edges}
 use Rattle.hm_graph_laws.specs.CharacterLaws.{keeps_at, stands_at, WaysSpell}
 use Rattle.hm_graph_laws.specs.Edges.{Edge, edge}
 use Rattle.hm_graph_laws.specs.States.{Where, outside, in_section, Pending, nothing, half, State, state}
@@ -30,7 +30,7 @@ add_piece t rules kind at q cs b rest after a is s = record {
 }
 
 -- what the edges from a place outside of sections write
-record Behind (t : List Entry) (rules : CharacterRules) (kind : TextKind) (at : Where) (to : State) (after cs : List ℕ) (p : Pending) (b : List ℕ) : Type 0 where
+record SpelledAfter (t : List Entry) (rules : CharacterRules) (kind : TextKind) (at : Where) (to : State) (after cs : List ℕ) (p : Pending) (b : List ℕ) : Type 0 where
   spells : SpellsPoints t rules (spot_at kind at) cs b after
   kept : keeps t (spot_at kind at) p (b ++ after) ≡ true
   fits : Fits t (spot_at kind at) to.pending
@@ -46,17 +46,17 @@ record Inside (t : List Entry) (rules : CharacterRules) (kind : TextKind) (at : 
   written : all_pass (is_writable rules.ascii) points ≡ true
   unmarked : has_mark (codes "]]>") (brackets p ++ points) ≡ false
   whole : b ≡ encode_utf8_all points ++ (codes "]]>" ++ rest)
-  later : Behind t rules kind at to after others nothing rest
+  later : SpelledAfter t rules kind at to after others nothing rest
 
 -- the same after the bytes of `front`
-record InsideBehind (t : List Entry) (rules : CharacterRules) (kind : TextKind) (at : Where) (to : State) (after front cs : List ℕ) (p : Pending) (b : List ℕ) : Type 0 where
+record InsideAfter (t : List Entry) (rules : CharacterRules) (kind : TextKind) (at : Where) (to : State) (after front cs : List ℕ) (p : Pending) (b : List ℕ) : Type 0 where
   tail : List ℕ
   is : b ≡ front ++ tail
   inside : Inside t rules kind at to after cs p tail
 
 module _ (t : List Entry) (table : IsTable t) (rules : CharacterRules) (kind : TextKind) (at : Where) (to : State) (after : List ℕ) (placed : is_in_section at ≡ false) where
   abbrev AllOutside : List ℕ → Type 0
-  AllOutside cs = (p : Pending) (b : List ℕ) → Fits t (spot_at kind at) p → Way t rules kind cs (state at p) b to → Behind t rules kind at to after cs p b
+  AllOutside cs = (p : Pending) (b : List ℕ) → Fits t (spot_at kind at) p → Way t rules kind cs (state at p) b to → SpelledAfter t rules kind at to after cs p b
 
   abbrev AllInside : List ℕ → Type 0
   AllInside cs = at ≡ outside → (p : Pending) (b : List ℕ) → is_null cs ≡ false → Way t rules kind cs (state in_section p) b to → Inside t rules kind at to after cs p b
@@ -70,7 +70,7 @@ module _ (t : List Entry) (table : IsTable t) (rules : CharacterRules) (kind : T
   Skipped [] = Unit {0}
   Skipped (d ∷ cs) = AllOutside cs
 
-  one_more : (c : ℕ) (p : Pending) (k : Choice) (cs b rest : List ℕ) → WritesOne t rules (spot_at kind at) c p k → b ≡ k.bytes ++ rest → Behind t rules kind at to after cs k.to rest → Behind t rules kind at to after (c ∷ cs) p b
+  one_more : (c : ℕ) (p : Pending) (k : Choice) (cs b rest : List ℕ) → WritesOne t rules (spot_at kind at) c p k → b ≡ k.bytes ++ rest → SpelledAfter t rules kind at to after cs k.to rest → SpelledAfter t rules kind at to after (c ∷ cs) p b
   one_more c p k cs b rest o is n =
       let cut : b ++ after ≡ k.bytes ++ (rest ++ after) = ap (λ w. w ++ after) is ∙ append_assoc k.bytes rest after in
       record {
@@ -84,7 +84,7 @@ module _ (t : List Entry) (table : IsTable t) (rules : CharacterRules) (kind : T
       by_kind (inl l) = add_piece t rules kind at (itself c) cs b rest after (l.stands, l.is_kept) (is ∙ ap (λ w. w ++ rest) l.bytes) n.spells
       by_kind (inr (a, r)) = add_piece t rules kind at (reference_to k.bytes (c ∷ [])) cs b rest after (a, r.found) is n.spells
 
-  two_more : (c d : ℕ) (p : Pending) (k : Choice) (cs b rest : List ℕ) (o : WritesTwo t rules (spot_at kind at) c d p k) → b ≡ k.bytes ++ rest → Behind t rules kind at to after cs (behind_half o.left) rest → Behind t rules kind at to after (c ∷ d ∷ cs) p b
+  two_more : (c d : ℕ) (p : Pending) (k : Choice) (cs b rest : List ℕ) (o : WritesTwo t rules (spot_at kind at) c d p k) → b ≡ k.bytes ++ rest → SpelledAfter t rules kind at to after cs (after_half o.left) rest → SpelledAfter t rules kind at to after (c ∷ d ∷ cs) p b
   two_more c d p k cs b rest o is n =
       let cut : b ++ after ≡ k.bytes ++ (rest ++ after) = ap (λ w. w ++ after) is ∙ append_assoc k.bytes rest after in
       let w = o.writes (rest ++ after) n.kept in
@@ -96,29 +96,29 @@ module _ (t : List Entry) (table : IsTable t) (rules : CharacterRules) (kind : T
       }
 
   -- the code point that is due has an edge without bytes, and no other
-  pub due_edge : (d : ℕ) (next : Option ℕ) (left : Option (List ℕ)) (e : Edge) → IsIn e (character_edges t rules kind d next (state at (half left))) → e ≡ edge [] at (behind_half left)
+  pub due_edge : (d : ℕ) (next : Option ℕ) (left : Option (List ℕ)) (e : Edge) → IsIn e (character_edges t rules kind d next (state at (half left))) → e ≡ edge [] at (after_half left)
   due_edge d next left e i = by_kind (outside_edge_is t rules kind at d next (half left) e placed i)
     where
-      by_kind : IsOutsideEdge t rules (spot_at kind at) at d next (half left) e → e ≡ edge [] at (behind_half left)
-      by_kind (chooses k j is) = is ∙ ap (kept_at at) (only k (choice [] (behind_half left)) j)
+      by_kind : IsOutsideEdge t rules (spot_at kind at) at d next (half left) e → e ≡ edge [] at (after_half left)
+      by_kind (chooses k j is) = is ∙ ap (kept_at at) (only k (choice [] (after_half left)) j)
       by_kind (opens o j) = absurd (let h = o.whole in cc)
 
-  pair_more : (c d : ℕ) (cs : List ℕ) (p : Pending) (k : Choice) (b rest : List ℕ) → next_of cs ≡ Some d → Skipped cs → WritesTwo t rules (spot_at kind at) c d p k → b ≡ k.bytes ++ rest → Way t rules kind cs (state at k.to) rest to → Behind t rules kind at to after (c ∷ cs) p b
+  pair_more : (c d : ℕ) (cs : List ℕ) (p : Pending) (k : Choice) (b rest : List ℕ) → next_of cs ≡ Some d → Skipped cs → WritesTwo t rules (spot_at kind at) c d p k → b ≡ k.bytes ++ rest → Way t rules kind cs (state at k.to) rest to → SpelledAfter t rules kind at to after (c ∷ cs) p b
   pair_more c d [] p k b rest n skip o is w = absurd (cc)
   pair_more c d (f ∷ cs) p k b rest n skip o is w = by_way (subst (λ q. Way t rules kind (f ∷ cs) (state at q) rest to) o.to_is w)
     where
-      by_way : Way t rules kind (f ∷ cs) (state at (half o.left)) rest to → Behind t rules kind at to after (c ∷ f ∷ cs) p b
+      by_way : Way t rules kind (f ∷ cs) (state at (half o.left)) rest to → SpelledAfter t rules kind at to after (c ∷ f ∷ cs) p b
       by_way (e, i, (rest', is', w')) =
           let here = due_edge f (next_of cs) o.left e i in
           let left : rest ≡ rest' = is' ∙ ap (λ x. x.bytes ++ rest') here in
-          let more = skip (behind_half o.left) rest' o.fits (subst (λ x. Way t rules kind cs x.to rest' to) here w') in
+          let more = skip (after_half o.left) rest' o.fits (subst (λ x. Way t rules kind cs x.to rest' to) here w') in
           let same : d ≡ f = cc in
-          subst (λ x. Behind t rules kind at to after (c ∷ x ∷ cs) p b) same (two_more c d p k cs b rest' o (is ∙ ap (λ x. k.bytes ++ x) left) more)
+          subst (λ x. SpelledAfter t rules kind at to after (c ∷ x ∷ cs) p b) same (two_more c d p k cs b rest' o (is ∙ ap (λ x. k.bytes ++ x) left) more)
 
   -- ---- sections
 
   inside_more : (front : List ℕ) (c : ℕ) (cs : List ℕ) (p : Pending) (b rest : List ℕ) (e : Edge) → So cs → at ≡ outside → GoesOn rules.ascii c p → IsSectionEdge front c cs p e → b ≡ e.bytes ++ rest → Way t rules kind cs e.to rest to
-      → InsideBehind t rules kind at to after front (c ∷ cs) p b
+      → InsideAfter t rules kind at to after front (c ∷ cs) p b
   inside_more front c cs p b rest e s here g (closes same) is w = record {
     tail = encode_utf8 c ++ (codes "]]>" ++ rest);
     is = is ∙ ap (λ x. x.bytes ++ rest) same ∙ append_assoc front (encode_utf8 c ++ codes "]]>") rest ∙ ap (λ x. front ++ x) (append_assoc (encode_utf8 c) (codes "]]>") rest);
@@ -129,13 +129,13 @@ module _ (t : List Entry) (table : IsTable t) (rules : CharacterRules) (kind : T
       cut = refl;
       some = refl;
       written = rw g.written refl;
-      unmarked = mark_step c p [] ∙ rw (g.unclosed, unended (in_section_behind c p)) refl;
+      unmarked = mark_step c p [] ∙ rw (g.unclosed, unended (in_section_after c p)) refl;
       whole = ap (λ x. x ++ (codes "]]>" ++ rest)) (sym (append-nil (encode_utf8 c)));
       later = s.from_outside nothing rest tt (subst (λ a. Way t rules kind cs (state a nothing) rest to) (sym here) (subst (λ x. Way t rules kind cs x.to rest to) same w));
     };
   }
   inside_more front c cs p b rest e s here g (goes_on some same) is w =
-      let m = s.from_inside here (in_section_behind c p) rest some (subst (λ x. Way t rules kind cs x.to rest to) same w) in
+      let m = s.from_inside here (in_section_after c p) rest some (subst (λ x. Way t rules kind cs x.to rest to) same w) in
       record {
         tail = encode_utf8 c ++ rest;
         is = is ∙ ap (λ x. x.bytes ++ rest) same ∙ append_assoc front (encode_utf8 c) rest;
@@ -157,7 +157,7 @@ module _ (t : List Entry) (table : IsTable t) (rules : CharacterRules) (kind : T
   good_section points some written unmarked = rw (some, written, unmarked) refl
 
   -- a section before the others
-  opened : (c : ℕ) (cs : List ℕ) (p : Pending) (b : List ℕ) → is_foreign (spot_at kind at) ≡ true → Fits t (spot_at kind at) p → InsideBehind t rules kind at to after (codes "<![CDATA[") (c ∷ cs) nothing b → Behind t rules kind at to after (c ∷ cs) p b
+  opened : (c : ℕ) (cs : List ℕ) (p : Pending) (b : List ℕ) → is_foreign (spot_at kind at) ≡ true → Fits t (spot_at kind at) p → InsideAfter t rules kind at to after (codes "<![CDATA[") (c ∷ cs) nothing b → SpelledAfter t rules kind at to after (c ∷ cs) p b
   opened c cs p b here f m =
       let i = m.inside in
       let cut : b ≡ codes "<![CDATA[" ++ ((encode_utf8_all i.points ++ codes "]]>") ++ i.rest) = m.is ∙ ap (λ x. codes "<![CDATA[" ++ x) (i.whole ∙ sym (append_assoc (encode_utf8_all i.points) (codes "]]>") i.rest)) in
@@ -177,11 +177,11 @@ module _ (t : List Entry) (table : IsTable t) (rules : CharacterRules) (kind : T
       outer : AllOutside (c ∷ cs)
       outer p b f (e, i, (rest, is, w)) = by_kind (outside_edge_is t rules kind at c (next_of cs) p e placed i)
         where
-          by_writes : (k : Choice) → b ≡ k.bytes ++ rest → Way t rules kind cs (state at k.to) rest to → Writes t rules (spot_at kind at) c (next_of cs) p k → Behind t rules kind at to after (c ∷ cs) p b
+          by_writes : (k : Choice) → b ≡ k.bytes ++ rest → Way t rules kind cs (state at k.to) rest to → Writes t rules (spot_at kind at) c (next_of cs) p k → SpelledAfter t rules kind at to after (c ∷ cs) p b
           by_writes k is' w' (inl o) = one_more c p k cs b rest o is' (s.from_outside k.to rest o.fits w')
           by_writes k is' w' (inr (d, n, o)) = pair_more c d cs p k b rest n skip o is' w'
 
-          by_kind : IsOutsideEdge t rules (spot_at kind at) at c (next_of cs) p e → Behind t rules kind at to after (c ∷ cs) p b
+          by_kind : IsOutsideEdge t rules (spot_at kind at) at c (next_of cs) p e → SpelledAfter t rules kind at to after (c ∷ cs) p b
           by_kind (chooses k j same) = by_writes k (is ∙ ap (λ x. x.bytes ++ rest) same) (subst (λ x. Way t rules kind cs x.to rest to) same w) (choice_writes t table rules (spot_at kind at) c (next_of cs) p f k j)
           by_kind (opens o j) =
               opened c cs p b o.is_here f

@@ -6,7 +6,7 @@ use Rattle.hm_refs.specs.Numbers.{best_number}
 use Rattle.hm_refs.specs.Tables.{IsIn, IsTable, first, later}
 use Rattle.hm_spelling_spec.specs.Characters.{CharacterRules, Spot, is_value, may_stand, stays}
 use Rattle.hm_graph_laws.proofs.Pieces.{Itself, Refers}
-use Rattle.hm_graph_laws.specs.CharacterEdges.{Choice, as_itself, behind_half, behind_name, behind_pair, by_decimal, by_hexadecimal, by_names, by_pairs, by_references, choice, choices, choices_by, half_of, itself_by, itself_to}
+use Rattle.hm_graph_laws.specs.CharacterEdges.{Choice, as_itself, after_half, after_name, after_pair, by_decimal, by_hexadecimal, by_names, by_pairs, by_references, choice, choices, choices_by, half_of, itself_by, itself_to}
 use Rattle.hm_graph_laws.specs.States.{Pending, ampersand, decimal, half, hash, hash_x, hexadecimal, less_than, named, nothing, one_bracket, two_brackets}
 use Rattle.hm_graph_laws.specs.Steps.{Fits, FitsAfter, IsOpen, keeps, keeps_after, run, step}
 use Rattle.hm_refs.proofs.Bools.{and_left, and_right}
@@ -29,9 +29,9 @@ pub record WritesOne (t : List Entry) (rules : CharacterRules) (spot : Spot) (c 
 pub record WritesTwo (t : List Entry) (rules : CharacterRules) (spot : Spot) (c d : ℕ) (p : Pending) (e : Choice) : Type 0 where
   pub left : Option (List ℕ)
   pub to_is : e.to ≡ half left
-  pub fits : Fits t spot (behind_half left)
-  pub writes : (x : List ℕ) → keeps t spot (behind_half left) x ≡ true → (rules.refers c ≡ true) × Refers t spot (c ∷ d ∷ []) e.bytes x
-  pub before : (x : List ℕ) → keeps t spot (behind_half left) x ≡ true → keeps t spot p (e.bytes ++ x) ≡ true
+  pub fits : Fits t spot (after_half left)
+  pub writes : (x : List ℕ) → keeps t spot (after_half left) x ≡ true → (rules.refers c ≡ true) × Refers t spot (c ∷ d ∷ []) e.bytes x
+  pub before : (x : List ℕ) → keeps t spot (after_half left) x ≡ true → keeps t spot p (e.bytes ++ x) ≡ true
 
 pub whole_of : (t : List Entry) (spot : Spot) (p : Pending) → Fits t spot p → half_of p ≡ None
 whole_of t spot nothing f = refl
@@ -112,32 +112,32 @@ pub named_is : (t : List Entry) (state : List ℕ → Pending) (points : List �
 named_is [] state points e i = elim i [ ]
 named_is (y ∷ t) state points e i = named_step y t state points e (bytes_eq y.points points) refl (named_is t state points e) i
 
-pub name_fits : (t : List Entry) (spot : Spot) (m : List ℕ) → is_good m ≡ true → Fits t spot (behind_name m)
-unfolding behind_name
+pub name_fits : (t : List Entry) (spot : Spot) (m : List ℕ) → is_good m ≡ true → Fits t spot (after_name m)
+unfolding after_name
 name_fits t spot [] g = absurd (cc)
 name_fits t spot (x ∷ m) g = fits_cond t spot (last_is 59 (x ∷ m)) nothing (named (x ∷ m)) tt refl
 
-name_choice : (t : List Entry) → IsTable t → (rules : CharacterRules) (spot : Spot) (c : ℕ) (p : Pending) → Fits t spot p → is_some (step t spot p 38) ≡ true → rules.refers c ≡ true → (e : Choice) → IsNamedChoice t behind_name (c ∷ []) e → WritesOne t rules spot c p e
+name_choice : (t : List Entry) → IsTable t → (rules : CharacterRules) (spot : Spot) (c : ℕ) (p : Pending) → Fits t spot p → is_some (step t spot p 38) ≡ true → rules.refers c ≡ true → (e : Choice) → IsNamedChoice t after_name (c ∷ []) e → WritesOne t rules spot c p e
 name_choice t k rules spot c p f h a e n =
-    let reads : (x : List ℕ) → keeps t spot (behind_name n.entry.name) x ≡ true → Refers t spot (c ∷ []) n.entry.name x = λ x kept. name_read t k spot n.entry.name (c ∷ []) x (k.own n.entry n.among ∙ ap Some n.points_are) kept in
+    let reads : (x : List ℕ) → keeps t spot (after_name n.entry.name) x ≡ true → Refers t spot (c ∷ []) n.entry.name x = λ x kept. name_read t k spot n.entry.name (c ∷ []) x (k.own n.entry n.among ∙ ap Some n.points_are) kept in
     subst (λ e'. WritesOne t rules spot c p e') (sym n.choice_is) (record {
       fits = name_fits t spot n.entry.name (good_entry t k n.entry n.among);
       writes = λ x kept. inr (a, reads x kept);
       before = λ x kept. refers_before t k spot p f h (c ∷ []) n.entry.name x (reads x kept);
     })
 
-pub pair_to_is : (m : List ℕ) → (left : Option (List ℕ)) × (behind_pair m ≡ half left) × (behind_half left ≡ behind_name m)
-unfolding behind_pair behind_name
+pub pair_to_is : (m : List ℕ) → (left : Option (List ℕ)) × (after_pair m ≡ half left) × (after_half left ≡ after_name m)
+unfolding after_pair after_name
 pair_to_is m = by_last (last_is 59 m)
   where
-    by_last : (b : Bool) → (left : Option (List ℕ)) × (half (cond b None (Some m)) ≡ half left) × (behind_half left ≡ cond b nothing (named m))
+    by_last : (b : Bool) → (left : Option (List ℕ)) × (half (cond b None (Some m)) ≡ half left) × (after_half left ≡ cond b nothing (named m))
     by_last true = (None, refl, refl)
     by_last false = (Some m, refl, refl)
 
-pair_choice : (t : List Entry) → IsTable t → (rules : CharacterRules) (spot : Spot) (c d : ℕ) (p : Pending) → Fits t spot p → is_some (step t spot p 38) ≡ true → rules.refers c ≡ true → (e : Choice) → IsNamedChoice t behind_pair (c ∷ d ∷ []) e → WritesTwo t rules spot c d p e
+pair_choice : (t : List Entry) → IsTable t → (rules : CharacterRules) (spot : Spot) (c d : ℕ) (p : Pending) → Fits t spot p → is_some (step t spot p 38) ≡ true → rules.refers c ≡ true → (e : Choice) → IsNamedChoice t after_pair (c ∷ d ∷ []) e → WritesTwo t rules spot c d p e
 pair_choice t k rules spot c d p f h a e n =
     let (left, to, same) = pair_to_is n.entry.name in
-    let reads : (x : List ℕ) → keeps t spot (behind_half left) x ≡ true → Refers t spot (c ∷ d ∷ []) n.entry.name x = λ x kept. name_read t k spot n.entry.name (c ∷ d ∷ []) x (k.own n.entry n.among ∙ ap Some n.points_are) (subst (λ q. keeps t spot q x ≡ true) same kept) in
+    let reads : (x : List ℕ) → keeps t spot (after_half left) x ≡ true → Refers t spot (c ∷ d ∷ []) n.entry.name x = λ x kept. name_read t k spot n.entry.name (c ∷ d ∷ []) x (k.own n.entry n.among ∙ ap Some n.points_are) (subst (λ q. keeps t spot q x ≡ true) same kept) in
     subst (λ e'. WritesTwo t rules spot c d p e') (sym n.choice_is) (record {
       left = left;
       to_is = to;
@@ -159,17 +159,17 @@ Writes t rules spot c next p e = WritesOne t rules spot c p e ⊎ ((d : ℕ) × 
 
 pair_writes : (t : List Entry) → IsTable t → (rules : CharacterRules) (spot : Spot) (c : ℕ) (next : Option ℕ) (p : Pending) → Fits t spot p → is_some (step t spot p 38) ≡ true → rules.refers c ≡ true → (e : Choice) → IsIn e (by_pairs t c next) → Writes t rules spot c next p e
 pair_writes t k rules spot c None p f h a e i = elim i [ ]
-pair_writes t k rules spot c (Some d) p f h a e i = inr (d, refl, pair_choice t k rules spot c d p f h a e (named_is t behind_pair (c ∷ d ∷ []) e i))
+pair_writes t k rules spot c (Some d) p f h a e i = inr (d, refl, pair_choice t k rules spot c d p f h a e (named_is t after_pair (c ∷ d ∷ []) e i))
 
 reference_writes : (t : List Entry) → IsTable t → (rules : CharacterRules) (spot : Spot) (c : ℕ) (next : Option ℕ) (p : Pending) → Fits t spot p → is_some (step t spot p 38) ≡ true → rules.refers c ≡ true → (e : Choice) → IsIn e (by_references t c next) → Writes t rules spot c next p e
-reference_writes t k rules spot c next p f h a e i = by_first (in_append e (by_names behind_name (c ∷ []) t) (by_pairs t c next ++ (by_decimal (best_number c) ++ by_hexadecimal c)) i)
+reference_writes t k rules spot c next p f h a e i = by_first (in_append e (by_names after_name (c ∷ []) t) (by_pairs t c next ++ (by_decimal (best_number c) ++ by_hexadecimal c)) i)
   where
     by_second : IsIn e (by_pairs t c next) ⊎ IsIn e (by_decimal (best_number c) ++ by_hexadecimal c) → Writes t rules spot c next p e
     by_second (inl j) = pair_writes t k rules spot c next p f h a e j
     by_second (inr j) = inl (number_choice t k rules spot c p f h a e j)
 
-    by_first : IsIn e (by_names behind_name (c ∷ []) t) ⊎ IsIn e (by_pairs t c next ++ (by_decimal (best_number c) ++ by_hexadecimal c)) → Writes t rules spot c next p e
-    by_first (inl j) = inl (name_choice t k rules spot c p f h a e (named_is t behind_name (c ∷ []) e j))
+    by_first : IsIn e (by_names after_name (c ∷ []) t) ⊎ IsIn e (by_pairs t c next ++ (by_decimal (best_number c) ++ by_hexadecimal c)) → Writes t rules spot c next p e
+    by_first (inl j) = inl (name_choice t k rules spot c p f h a e (named_is t after_name (c ∷ []) e j))
     by_first (inr j) = by_second (in_append e (by_pairs t c next) (by_decimal (best_number c) ++ by_hexadecimal c) j)
 
 pub choice_writes : (t : List Entry) → IsTable t → (rules : CharacterRules) (spot : Spot) (c : ℕ) (next : Option ℕ) (p : Pending) → Fits t spot p → (e : Choice) → IsIn e (choices t rules spot c next p) → Writes t rules spot c next p e
@@ -229,10 +229,10 @@ pub name_in : (t : List Entry) (spot : Spot) (state : List ℕ → Pending) (poi
 name_in t spot state points piece x n = let en = entry_of t piece points n.own in
     subst (λ m. IsIn (choice m (state m)) (by_names state points t)) en.name_is (named_in t state points en.entry en.among en.points_are)
 
-name_for : (t : List Entry) → IsTable t → (spot : Spot) (c : ℕ) (piece x : List ℕ) → IsName t spot (c ∷ []) piece x → ChoiceFor t spot (by_names behind_name (c ∷ []) t) piece x
+name_for : (t : List Entry) → IsTable t → (spot : Spot) (c : ℕ) (piece x : List ℕ) → IsName t spot (c ∷ []) piece x → ChoiceFor t spot (by_names after_name (c ∷ []) t) piece x
 name_for t k spot c piece x n = record {
-  choice_for = choice piece (behind_name piece);
-  among = name_in t spot behind_name (c ∷ []) piece x n;
+  choice_for = choice piece (after_name piece);
+  among = name_in t spot after_name (c ∷ []) piece x n;
   fits = name_fits t spot piece (good_of t k piece (c ∷ []) n.own);
   kept = n.kept;
   short = omega arith;
@@ -247,12 +247,12 @@ takes_amp t k spot p f points piece x r h = by_step (step t spot p 38) (sym (ste
     by_step (Some q) g = refl
 
 reference_for : (t : List Entry) → IsTable t → (spot : Spot) (c : ℕ) (next : Option ℕ) (piece x : List ℕ) → IsName t spot (c ∷ []) piece x ⊎ IsNumber (c ∷ []) piece x → ChoiceFor t spot (by_references t c next) piece x
-reference_for t k spot c next piece x (inl n) = put_in t spot (by_names behind_name (c ∷ []) t) (by_references t c next) piece x (λ e i. in_left e (by_names behind_name (c ∷ []) t) (by_pairs t c next ++ (by_decimal (best_number c) ++ by_hexadecimal c)) i) (name_for t k spot c piece x n)
+reference_for t k spot c next piece x (inl n) = put_in t spot (by_names after_name (c ∷ []) t) (by_references t c next) piece x (λ e i. in_left e (by_names after_name (c ∷ []) t) (by_pairs t c next ++ (by_decimal (best_number c) ++ by_hexadecimal c)) i) (name_for t k spot c piece x n)
 reference_for t k spot c next piece x (inr n) =
     let m = number_for t spot c piece x n in
     record {
       choice_for = m.choice_for;
-      among = in_right m.choice_for (by_names behind_name (c ∷ []) t) (by_pairs t c next ++ (by_decimal (best_number c) ++ by_hexadecimal c)) (in_right m.choice_for (by_pairs t c next) (by_decimal (best_number c) ++ by_hexadecimal c) m.among);
+      among = in_right m.choice_for (by_names after_name (c ∷ []) t) (by_pairs t c next ++ (by_decimal (best_number c) ++ by_hexadecimal c)) (in_right m.choice_for (by_pairs t c next) (by_decimal (best_number c) ++ by_hexadecimal c) m.among);
       fits = number_fits t spot c m.choice_for m.among;
       kept = m.kept;
       short = m.short;
@@ -276,8 +276,8 @@ choice_for_one t k rules spot c next p piece x f h (inr (a, r)) = put_in t spot 
 pub record PairFor (t : List Entry) (spot : Spot) (choices : List Choice) (piece x : List ℕ) : Type 0 where
   pub left : Option (List ℕ)
   pub among : IsIn (choice piece (half left)) choices
-  pub fits : Fits t spot (behind_half left)
-  pub kept : keeps t spot (behind_half left) x ≡ true
+  pub fits : Fits t spot (after_half left)
+  pub kept : keeps t spot (after_half left) x ≡ true
 
 pub choice_for_two : (t : List Entry) → IsTable t → (rules : CharacterRules) (spot : Spot) (c d : ℕ) (p : Pending) (piece x : List ℕ) → Fits t spot p → keeps t spot p (piece ++ x) ≡ true → rules.refers c ≡ true → Refers t spot (c ∷ d ∷ []) piece x → PairFor t spot (choices t rules spot c (Some d) p) piece x
 choice_for_two t k rules spot c d p piece x f h a r = by_kind (reference_is t k spot (c ∷ d ∷ []) piece x r)
@@ -285,12 +285,12 @@ choice_for_two t k rules spot c d p piece x f h a r = by_kind (reference_is t k 
     by_kind : IsName t spot (c ∷ d ∷ []) piece x ⊎ IsNumber (c ∷ d ∷ []) piece x → PairFor t spot (choices t rules spot c (Some d) p) piece x
     by_kind (inl n) =
         let (left, to, same) = pair_to_is piece in
-        let i = name_in t spot behind_pair (c ∷ d ∷ []) piece x n in
+        let i = name_in t spot after_pair (c ∷ d ∷ []) piece x n in
         let i' = subst (λ s. IsIn (choice piece s) (by_pairs t c (Some d))) to i in
         record {
           left = left;
           among = refer_in t rules spot c (Some d) p f (takes_amp t k spot p f (c ∷ d ∷ []) piece x r h) a (choice piece (half left))
-              (in_right (choice piece (half left)) (by_names behind_name (c ∷ []) t) (by_pairs t c (Some d) ++ (by_decimal (best_number c) ++ by_hexadecimal c)) (in_left (choice piece (half left)) (by_pairs t c (Some d)) (by_decimal (best_number c) ++ by_hexadecimal c) i'));
+              (in_right (choice piece (half left)) (by_names after_name (c ∷ []) t) (by_pairs t c (Some d) ++ (by_decimal (best_number c) ++ by_hexadecimal c)) (in_left (choice piece (half left)) (by_pairs t c (Some d)) (by_decimal (best_number c) ++ by_hexadecimal c) i'));
           fits = subst (λ q. Fits t spot q) (sym same) (name_fits t spot piece (good_of t k piece (c ∷ d ∷ []) n.own));
           kept = subst (λ q. keeps t spot q x ≡ true) (sym same) n.kept;
         }

@@ -4,14 +4,14 @@ use Rattle.std.specs.Prelude.{bytes_eq, codes, count_by, encode_utf8}
 use Rattle.std.proofs.lemmas.List.Sums.{sum_by-cons}
 use Rattle.std.proofs.lemmas.List.{length-map}
 use Rattle.hm_base.specs.Bytes.{head_is}
-use Rattle.hm_graph_laws.specs.AttributeEdges.{close_edges, closed_at, gap_at, is_behind_unquoted, opening_edges}
-use Rattle.hm_graph_laws.specs.CharacterEdges.{Choice, as_itself, behind_name, behind_pair, by_decimal, by_hexadecimal, by_names, by_pairs, by_references, character_edges, choice, choices, choices_by, half_of, is_in_section, is_outside, itself_by, kept_at, opened_sections, outside_edges, section_edges_by, closes_section, spot_at}
+use Rattle.hm_graph_laws.specs.AttributeEdges.{close_edges, closed_at, gap_at, is_after_unquoted, opening_edges}
+use Rattle.hm_graph_laws.specs.CharacterEdges.{Choice, as_itself, after_name, after_pair, by_decimal, by_hexadecimal, by_names, by_pairs, by_references, character_edges, choice, choices, choices_by, half_of, is_in_section, is_outside, itself_by, kept_at, opened_sections, outside_edges, section_edges_by, closes_section, spot_at}
 use Rattle.hm_graph_laws.specs.Edges.{Edge, edge, edge_to}
 use Rattle.hm_graph_laws.specs.EdgeLaws.{StatesHaveFewEdges}
 use Rattle.hm_graph_laws.specs.States.{Pending, State, Where, first_state, in_unquoted, nothing, self_closed, state, value_spot}
 use Rattle.hm_graph_laws.specs.States as places
 use Rattle.hm_graph_laws.specs.Steps.{may_end, run, step}
-use Rattle.hm_graph_laws.specs.TagEdges.{behind_left_out, end_bytes, end_edges, is_loose, is_self_closed, start_bytes, start_edges, unloosed}
+use Rattle.hm_graph_laws.specs.TagEdges.{after_left_out, end_bytes, end_edges, is_loose, is_self_closed, start_bytes, start_edges, unloosed}
 use Rattle.hm_graph_laws.specs.Units.{TextKind, fixed, start_tag, tag_name, bare_attribute, attribute_name, character, attribute_end, tag_close, end_tag}
 use Rattle.hm_refs.specs.Names.{Entry}
 use Rattle.hm_refs.specs.Numbers.{best_number}
@@ -84,9 +84,9 @@ names_few f h c d (e ∷ t) =
 
 -- ---- Choices
 
-by_name_few : (t : List Entry) → IsTable t → (c : ℕ) (next : Option ℕ) → length (by_names behind_name (c ∷ []) t) + length (by_pairs t c next) ≤ 64
-by_name_few t k c None = omega (arith, names_few behind_name behind_pair c 0 t, (k.few_for c).0)
-by_name_few t k c (Some d) = omega (arith, names_few behind_name behind_pair c d t, (k.few_for c).0)
+by_name_few : (t : List Entry) → IsTable t → (c : ℕ) (next : Option ℕ) → length (by_names after_name (c ∷ []) t) + length (by_pairs t c next) ≤ 64
+by_name_few t k c None = omega (arith, names_few after_name after_pair c 0 t, (k.few_for c).0)
+by_name_few t k c (Some d) = omega (arith, names_few after_name after_pair c d t, (k.few_for c).0)
 
 decimal_few : (n : Option ℕ) → length (by_decimal n) ≤ 2
 decimal_few None = omega arith
@@ -97,7 +97,7 @@ hexadecimal_few c = some_few (nat_le 1000000 c && nat_le c 1048575) _ 2 (omega a
 
 references_few : (t : List Entry) → IsTable t → (c : ℕ) (next : Option ℕ) → length (by_references t c next) ≤ 68
 references_few t k c next =
-    let names = by_names behind_name (c ∷ []) t in
+    let names = by_names after_name (c ∷ []) t in
     let pairs = by_pairs t c next in
     let numbers = by_decimal (best_number c) ++ by_hexadecimal c in
     omega (
@@ -144,9 +144,9 @@ closed_few : (at : Where) → length (closed_at at) ≤ 71
 closed_few places.outside = omega arith
 closed_few places.loose = omega arith
 closed_few places.self_closed = omega arith
-closed_few places.behind_name = omega arith
-closed_few places.behind_unquoted = omega arith
-closed_few places.behind_quoted = omega arith
+closed_few places.after_name = omega arith
+closed_few places.after_unquoted = omega arith
+closed_few places.after_quoted = omega arith
 closed_few places.in_unquoted = omega arith
 closed_few places.in_double = omega arith
 closed_few places.in_single = omega arith
@@ -157,21 +157,21 @@ one_before : (b : Bool) (e : Edge) (es : List Edge) (n : ℕ) → length es ≤ 
 one_before true e es n h = omega (arith, h)
 one_before false e es n h = omega (arith, h)
 
-one_behind : (b : Bool) (d e : Edge) → length (d ∷ cond b (e ∷ []) []) ≤ 2
-one_behind true d e = omega arith
-one_behind false d e = omega arith
+one_after : (b : Bool) (d e : Edge) → length (d ∷ cond b (e ∷ []) []) ≤ 2
+one_after true d e = omega arith
+one_after false d e = omega arith
 
 start_few : (n : List ℕ) (omits firm closes : Bool) (s : State) → length (start_edges n omits firm closes s) ≤ 3
-start_few n omits firm closes s = one_before (omits && not (firm && is_loose s.at)) (edge_to [] (state (unloosed s.at) s.pending)) _ 2 (one_behind closes (edge_to (start_bytes n) first_state) (edge (codes "<" ++ (n ++ codes "/>")) self_closed nothing))
+start_few n omits firm closes s = one_before (omits && not (firm && is_loose s.at)) (edge_to [] (state (unloosed s.at) s.pending)) _ 2 (one_after closes (edge_to (start_bytes n) first_state) (edge (codes "<" ++ (n ++ codes "/>")) self_closed nothing))
 
 opening_few : (tight unquote : Bool) (n : List ℕ) (s : State) → length (opening_edges tight unquote n s) ≤ 3
 opening_few tight unquote n s = one_before unquote (edge (gap_at tight s.at ++ (n ++ codes "=")) in_unquoted nothing) _ 2 (omega arith)
 
 close_few : (closes : Bool) (s : State) → length (close_edges closes s) ≤ 2
-close_few closes s = one_behind closes (edge_to (62 ∷ []) first_state) (edge (cond (is_behind_unquoted s.at) (codes " />") (codes "/>")) self_closed nothing)
+close_few closes s = one_after closes (edge_to (62 ∷ []) first_state) (edge (cond (is_after_unquoted s.at) (codes " />") (codes "/>")) self_closed nothing)
 
 end_few : (n : List ℕ) (omits loosens : Bool) (s : State) → length (end_edges n omits loosens s) ≤ 2
-end_few n omits loosens s = either_few (is_self_closed s.at) _ _ 2 (omega arith) (one_before omits (edge_to [] (behind_left_out loosens s)) (edge_to (end_bytes n) first_state ∷ []) 1 (omega arith))
+end_few n omits loosens s = either_few (is_self_closed s.at) _ _ 2 (omega arith) (one_before omits (edge_to [] (after_left_out loosens s)) (edge_to (end_bytes n) first_state ∷ []) 1 (omega arith))
 
 pub states_have_few_edges : StatesHaveFewEdges
 states_have_few_edges g k (fixed b) s = omega arith

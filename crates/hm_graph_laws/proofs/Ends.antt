@@ -4,7 +4,7 @@ use Rattle.hm_base.specs.Bytes.{is_null}
 use Rattle.hm_refs.specs.Names.{Entry}
 use Rattle.hm_refs.specs.Tables.{IsTable}
 use Rattle.hm_spelling_spec.specs.Characters.{CharacterRules}
-use Rattle.hm_graph_laws.specs.CharacterEdges.{Choice, behind_half, in_section_behind, is_in_section, spot_at}
+use Rattle.hm_graph_laws.specs.CharacterEdges.{Choice, after_half, in_section_after, is_in_section, spot_at}
 use Rattle.hm_graph_laws.specs.CharacterLaws.{stands_at, WaysEnd}
 use Rattle.hm_graph_laws.specs.Edges.{Edge}
 use Rattle.hm_graph_laws.specs.States.{Where, outside, in_section, Pending, nothing, half, State, state}
@@ -33,15 +33,15 @@ module _ (t : List Entry) (table : IsTable t) (rules : CharacterRules) (kind : T
   Skipped [] = Unit {0}
   Skipped (d ∷ cs) = EndsOutside cs
 
-  pair_ends : (c d : ℕ) (cs : List ℕ) (left : Option (List ℕ)) (rest : List ℕ) → next_of cs ≡ Some d → Skipped cs → Fits t (spot_at kind at) (behind_half left) → Way t rules kind cs (state at (half left)) rest to → Ends
+  pair_ends : (c d : ℕ) (cs : List ℕ) (left : Option (List ℕ)) (rest : List ℕ) → next_of cs ≡ Some d → Skipped cs → Fits t (spot_at kind at) (after_half left) → Way t rules kind cs (state at (half left)) rest to → Ends
   pair_ends c d [] left rest n skip f w = absurd (cc)
   pair_ends c d (f ∷ cs) left rest n skip fits (e, i, (rest', is, w)) =
       let here = due_edge t table rules kind at to [] placed f (next_of cs) left e i in
-      skip (behind_half left) rest' fits (subst (λ x. Way t rules kind cs x.to rest' to) here w)
+      skip (after_half left) rest' fits (subst (λ x. Way t rules kind cs x.to rest' to) here w)
 
   section_ends : (front : List ℕ) (c : ℕ) (cs : List ℕ) (p : Pending) (rest : List ℕ) (e : Edge) → EndsSo cs → at ≡ outside → IsSectionEdge front c cs p e → Way t rules kind cs e.to rest to → Ends
   section_ends front c cs p rest e s here (closes same) w = s.from_outside nothing rest tt (subst (λ a. Way t rules kind cs (state a nothing) rest to) (sym here) (subst (λ x. Way t rules kind cs x.to rest to) same w))
-  section_ends front c cs p rest e s here (goes_on some same) w = s.from_inside here (in_section_behind c p) rest some (subst (λ x. Way t rules kind cs x.to rest to) same w)
+  section_ends front c cs p rest e s here (goes_on some same) w = s.from_inside here (in_section_after c p) rest some (subst (λ x. Way t rules kind cs x.to rest to) same w)
 
   step_ends : (c : ℕ) (cs : List ℕ) → EndsSo cs → Skipped cs → EndsSo (c ∷ cs)
   step_ends c cs s skip = record { from_outside = outer; from_inside = inner }

@@ -2,7 +2,7 @@
 use Rattle.std.proofs.Common.{◌≡◌, ℕ, ◌+◌, ◌≤◌, Bool, true, ◌&&◌, List, [], ◌∷◌, ◌++◌, length, refl, ap, sym, subst, ◌∙◌, inl, arith, length-append, chars}
 use Rattle.hm_base.specs.Walks.{Attribute}
 use Rattle.hm_markup_spec.specs.Gaps.{is_gap}
-use Rattle.hm_markup_spec.specs.Tags.{bare, double, Form, IsAssigned, parts_slash, single, tag_end, unquoted, WritesAttributes}
+use Rattle.hm_markup_spec.specs.Tags.{bare, double, Quoting, IsAssigned, parts_slash, single, tag_end, unquoted, WritesAttributes}
 use Rattle.hm_refs.specs.Names.{Entry}
 use Rattle.hm_refs.specs.Tables.{first, IsIn, IsTable, later}
 use Rattle.hm_spelling_spec.specs.Characters as spots
@@ -17,8 +17,8 @@ use Rattle.hm_graph_laws.proofs.Gives.{Gives, Keeps}
 use Rattle.hm_graph_laws.proofs.ExchangedTexts.{text_new}
 
 -- the same spelling without references at plain characters
-abbrev pub spared : Spelling → Spelling
-spared g = record { table = g.table; rules = g.rules; refers = needs_reference g.table }
+abbrev pub saved : Spelling → Spelling
+saved g = record { table = g.table; rules = g.rules; refers = needs_reference g.table }
 
 -- ---- values
 
@@ -42,9 +42,9 @@ reassigned v w b a = record {
 }
 
 -- a value that is respelled before other bytes
-record ValueNew (g : Spelling) (form : Form) (value b x y : List ℕ) : Type 0 where
+record ValueNew (g : Spelling) (form : Quoting) (value b x y : List ℕ) : Type 0 where
   bytes : List ℕ
-  spells : SpellsValue (spared g) form value bytes y
+  spells : SpellsValue (saved g) form value bytes y
   le : length bytes + length y ≤ length b + length x
 
 -- both close a value
@@ -63,7 +63,7 @@ module _ (g : Spelling) (table : IsTable g.table) where
       }
 
   quoted_new : (spot : Spot) (quote : ℕ) (value b x y : List ℕ) → is_value spot ≡ true → IsIn quote closing_bytes → IsQuotedValue g spot quote value b x → length y ≤ length x
-      → (bytes : List ℕ) × IsQuotedValue (spared g) spot quote value bytes y × (length bytes + length y ≤ length b + length x)
+      → (bytes : List ℕ) × IsQuotedValue (saved g) spot quote value bytes y × (length bytes + length y ≤ length b + length x)
   quoted_new spot quote value b x y v q w le =
       let closed : (s : List ℕ) → Closes (quote ∷ s) = λ s. record { byte = quote; rest = s; is = refl; among = q } in
       let gives = subst (λ c. Gives g.table c (quote ∷ x) (quote ∷ y)) (sym v) (closings_give g.table table (quote ∷ x) (quote ∷ y) (closed x) (closed y) (omega (arith, le))) in
@@ -74,7 +74,7 @@ module _ (g : Spelling) (table : IsTable g.table) where
         omega (arith, a.len, n.gives.le, length-append n.bytes (quote ∷ y), length-append w.written (quote ∷ x), length-append n.bytes (quote ∷ []), length-append w.written (quote ∷ [])),
       )
 
-  value_new : (form : Form) (value b x y : List ℕ) → SpellsValue g form value b x → (form ≡ unquoted → BothClose x y) → length y ≤ length x → ValueNew g form value b x y
+  value_new : (form : Quoting) (value b x y : List ℕ) → SpellsValue g form value b x → (form ≡ unquoted → BothClose x y) → length y ≤ length x → ValueNew g form value b x y
   value_new bare value b x y (none, is) ends le = record { bytes = []; spells = (none, refl); le = omega (arith, le) }
   value_new unquoted value b x y v ends le = bare_new value b x y v (ends refl) le
   value_new double value b x y v ends le = let (bytes, s, short) = quoted_new spots.double 34 value b x y refl (first _) v le in record { bytes = bytes; spells = s; le = short }
@@ -82,12 +82,12 @@ module _ (g : Spelling) (table : IsTable g.table) where
 
   -- ---- attributes
 
-  record AttributesNew (touching : Bool) (before last : Form) (attributes : List Attribute) (b x y : List ℕ) : Type 0 where
+  record AttributesNew (touching : Bool) (before last : Quoting) (attributes : List Attribute) (b x y : List ℕ) : Type 0 where
     bytes : List ℕ
-    writes : WritesAttributes (SpellsValue (spared g)) touching before last attributes bytes y
+    writes : WritesAttributes (SpellsValue (saved g)) touching before last attributes bytes y
     le : length bytes + length y ≤ length b + length x
 
-  attributes_new : (touching : Bool) (before last : Form) (attributes : List Attribute) (b x y : List ℕ) → WritesAttributes (SpellsValue g) touching before last attributes b x → (last ≡ unquoted → BothClose x y) → length y ≤ length x
+  attributes_new : (touching : Bool) (before last : Quoting) (attributes : List Attribute) (b x y : List ℕ) → WritesAttributes (SpellsValue g) touching before last attributes b x → (last ≡ unquoted → BothClose x y) → length y ≤ length x
       → AttributesNew touching before last attributes b x y
   attributes_new touching before last [] b x y (e, is) ends le = record { bytes = []; writes = (e, refl); le = omega (arith, le) }
   attributes_new touching before last (a ∷ attributes) b x y (form, piece, rest, is, one, more) ends le =
@@ -95,7 +95,7 @@ module _ (g : Spelling) (table : IsTable g.table) where
       let v = value_new form a.value one.value (rest ++ x) (m.bytes ++ y) one.assigned
       (λ u. (
         attributes_close g touching last attributes rest x (subst (λ f. WritesAttributes (SpellsValue g) touching f last attributes rest x) u more) (λ l. (ends l).0),
-        attributes_close (spared g) touching last attributes m.bytes y (subst (λ f. WritesAttributes (SpellsValue (spared g)) touching f last attributes m.bytes y) u m.writes) (λ l. (ends l).1),
+        attributes_close (saved g) touching last attributes m.bytes y (subst (λ f. WritesAttributes (SpellsValue (saved g)) touching f last attributes m.bytes y) u m.writes) (λ l. (ends l).1),
       ))
       (omega (arith, m.le, length-append rest x, length-append m.bytes y)) in
       let p = one.gap ++ (one.name ++ v.bytes) in
@@ -124,7 +124,7 @@ module _ (g : Spelling) (table : IsTable g.table) where
 -- a start tag that is respelled before other bytes
 pub record StartNew (g : Spelling) (name : List ℕ) (attributes : List Attribute) (slash : Bool) (b x y : List ℕ) : Type 0 where
   pub inner : List ℕ
-  pub spells : SpellsStart (spared g) name attributes slash (60 ∷ inner) y
+  pub spells : SpellsStart (saved g) name attributes slash (60 ∷ inner) y
   pub le : length (60 ∷ inner) + length y ≤ length b + length x
 
 pub start_new : (g : Spelling) → IsTable g.table → (name : List ℕ) (attributes : List Attribute) (slash : Bool) (b x y : List ℕ) → SpellsStart g name attributes slash b x → length y ≤ length x → StartNew g name attributes slash b x y

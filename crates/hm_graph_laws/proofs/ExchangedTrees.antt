@@ -4,7 +4,7 @@ use Rattle.hm_base.specs.Walks.{Attribute, comment, doctype, Element, end, Event
 use Rattle.hm_refs.specs.Tables.{IsTable}
 use Rattle.hm_spelling_spec.specs.Characters.{is_value, Spot}
 use Rattle.hm_spelling_spec.specs.Characters as spots
-use Rattle.hm_spelling_spec.specs.Spellings.{Before, behind_end, behind_start, EndForm, EndSp, everywhere, other, SpellsFrom, spot_of, StartForm, StartSp, TextSp, with_line_feed}
+use Rattle.hm_spelling_spec.specs.Spellings.{Before, after_end, after_start, EndForm, EndSp, everywhere, other, SpellsFrom, spot_of, StartForm, StartSp, TextSp, with_line_feed}
 use Rattle.hm_spelling_spec.specs.Spellings as forms
 use Rattle.hm_spelling_spec.specs.Tags.{character_rules, Spelling}
 use Rattle.hm_elements.specs.Paths.{current, is_in_svg, outer}
@@ -12,7 +12,7 @@ use Rattle.hm_elements.specs.Tables.{is_rcdata}
 use Rattle.hm_graph_laws.proofs.Closing.{markup_law}
 use Rattle.hm_graph_laws.specs.ExchangeLaws.{SpellingsSparePlain}
 use Rattle.hm_graph_laws.proofs.Gives.{Gives, gives_itself, same_front}
-use Rattle.hm_graph_laws.proofs.ExchangedTags.{spared, start_new}
+use Rattle.hm_graph_laws.proofs.ExchangedTags.{saved, start_new}
 use Rattle.hm_graph_laws.proofs.ExchangedTexts.{text_new}
 
 text_spot : (path : List Element) → is_value (spot_of path) ≡ false
@@ -26,7 +26,7 @@ text_spot path = by_tests (is_in_svg path) (is_rcdata (current path))
 -- the events, respelled
 record Anew (g : Spelling) (before : Before) (path : List Element) (w : List Event) (b : List ℕ) : Type 0 where
   bytes : List ℕ
-  spells : SpellsFrom (spared g) before path w bytes
+  spells : SpellsFrom (saved g) before path w bytes
   gives : Gives g.table false b bytes
 
 -- a piece that is respelled before y
@@ -43,19 +43,19 @@ module _ (g : Spelling) (table : IsTable g.table) where
   same_piece : (spells : List ℕ → List ℕ → Type 0) (b x y : List ℕ) → spells b y → Gives g.table false x y → PieceNew g spells b x y
   same_piece spells b x y s e = record { bytes = b; is = s; gives = same_front g.table table false b x y e }
 
-  text_anew : (before : Before) (path : List Element) (s : List ℕ) (raw : Bool) (b x y : List ℕ) → TextSp g before path s raw b x → Gives g.table false x y → PieceNew g (TextSp (spared g) before path s raw) b x y
-  text_anew before path s true b x y t e = same_piece (TextSp (spared g) before path s true) b x y t e
+  text_anew : (before : Before) (path : List Element) (s : List ℕ) (raw : Bool) (b x y : List ℕ) → TextSp g before path s raw b x → Gives g.table false x y → PieceNew g (TextSp (saved g) before path s raw) b x y
+  text_anew before path s true b x y t e = same_piece (TextSp (saved g) before path s true) b x y t e
   text_anew before path s false b x y t e =
       let n = text_new g.table table (character_rules g) (spot_of path) (with_line_feed before path (chars s)) b x y t (subst (λ v. Gives g.table v x y) (sym (text_spot path)) e) in
       record { bytes = n.bytes; is = n.spells; gives = subst (λ v. Gives g.table v (b ++ x) (n.bytes ++ y)) (text_spot path) n.gives }
 
   start_anew : (before : Before) (n : List ℕ) (foreign : Bool) (attributes : List Attribute) (w : List Event) (form : StartForm) (b x y : List ℕ) → StartSp g before n foreign attributes w form b x → Gives g.table false x y
-      → PieceNew g (StartSp (spared g) before n foreign attributes w form) b x y
-  start_anew before n foreign attributes w forms.omitted b x y s e = same_piece (StartSp (spared g) before n foreign attributes w forms.omitted) b x y s e
+      → PieceNew g (StartSp (saved g) before n foreign attributes w form) b x y
+  start_anew before n foreign attributes w forms.omitted b x y s e = same_piece (StartSp (saved g) before n foreign attributes w forms.omitted) b x y s e
   start_anew before n foreign attributes w forms.written b x y s e = let t = start_new g table n attributes false b x y s e.le in record { bytes = 60 ∷ t.inner; is = t.spells; gives = tags_give b t.inner x y t.le }
   start_anew before n foreign attributes w forms.slashed b x y (may, s) e = let t = start_new g table n attributes true b x y s e.le in record { bytes = 60 ∷ t.inner; is = (may, t.spells); gives = tags_give b t.inner x y t.le }
 
-  end_same : (before : Before) (n : List ℕ) (foreign : Bool) (path : List Element) (w : List Event) (form : EndForm) (b : List ℕ) → EndSp g before n foreign path w form b → EndSp (spared g) before n foreign path w form b
+  end_same : (before : Before) (n : List ℕ) (foreign : Bool) (path : List Element) (w : List Event) (form : EndForm) (b : List ℕ) → EndSp g before n foreign path w form b → EndSp (saved g) before n foreign path w form b
   end_same before n foreign path w forms.absent b e = e
   end_same before n foreign path w forms.omitted b e = e
   end_same before n foreign path w forms.written b e = e
@@ -78,11 +78,11 @@ module _ (g : Spelling) (table : IsTable g.table) where
       let n = text_anew before path s raw piece rest m.bytes t m.gives in
       record { bytes = n.bytes ++ m.bytes; spells = (n.bytes, m.bytes, refl, n.is, m.spells); gives = in_front b piece rest n.bytes m.bytes is n.gives }
   anew (start name foreign attributes ∷ w) before path b (form, piece, rest, is, s, more) =
-      let m = anew w (behind_start foreign form) (record { name = name; foreign = foreign } ∷ path) rest more in
+      let m = anew w (after_start foreign form) (record { name = name; foreign = foreign } ∷ path) rest more in
       let n = start_anew before name foreign attributes w form piece rest m.bytes s m.gives in
       record { bytes = n.bytes ++ m.bytes; spells = (form, n.bytes, m.bytes, refl, n.is, m.spells); gives = in_front b piece rest n.bytes m.bytes is n.gives }
   anew (end name foreign ∷ w) before path b (form, piece, rest, is, e, more) =
-      let m = anew w (behind_end name form) (outer path) rest more in
+      let m = anew w (after_end name form) (outer path) rest more in
       record { bytes = piece ++ m.bytes; spells = (form, piece, m.bytes, refl, end_same before name foreign (outer path) w form piece e, m.spells); gives = in_front b piece rest piece m.bytes is (same_front g.table table false piece rest m.bytes m.gives) }
 
 pub spellings_spare_plain : SpellingsSparePlain

@@ -6,13 +6,13 @@ use Rattle.hm_graph_laws.specs.Edges.{Edge, edge_length}
 use Rattle.hm_graph_laws.specs.States.{State, same_state}
 use Rattle.hm_graph_laws.specs.Units.{Unit}
 use Rattle.hm_graph_laws.specs.Ways.{Edges, best, lesser, over}
-use Rattle.hm_graph_laws.specs.Layers.{with_state, with_ends, with_layer, states_behind}
+use Rattle.hm_graph_laws.specs.Layers.{with_state, with_ends, with_layer, states_after}
 use Rattle.hm_graph_laws.specs.Prices.{price_at}
 use Rattle.hm_graph_laws.proofs.States.{same_is, same_self}
 
-pub in_behind : {A : Type 0} (x : A) (xs ys : List A) → IsIn x ys → IsIn x (xs ++ ys)
-in_behind x [] ys i = i
-in_behind x (y ∷ xs) ys i = later y (xs ++ ys) (in_behind x xs ys i)
+pub in_after : {A : Type 0} (x : A) (xs ys : List A) → IsIn x ys → IsIn x (xs ++ ys)
+in_after x [] ys i = i
+in_after x (y ∷ xs) ys i = later y (xs ++ ys) (in_after x xs ys i)
 
 in_front : {A : Type 0} (x : A) (xs ys : List A) → IsIn x xs → IsIn x (xs ++ ys)
 in_front x xs ys (first zs) = first (zs ++ ys)
@@ -34,7 +34,7 @@ adds_state : (states : List State) (s : State) → IsIn s (with_state states s)
 adds_state states s =
     elim (list_any (λ x. same_state x s) states) as (λ b. list_any (λ x. same_state x s) states ≡ b → IsIn s (cond b states (states ++ s ∷ []))) [
       | true ↦ λ e. any_in states s e
-      | false ↦ λ e. in_behind s states (s ∷ []) (first [])
+      | false ↦ λ e. in_after s states (s ∷ []) (first [])
     ] refl
 
 keeps_ends : (states : List State) (es : List Edge) (t : State) → IsIn t states → IsIn t (with_ends states es)
@@ -54,8 +54,8 @@ in_layer edges s e unit ends states (first zs) i = keeps_layer edges (with_ends 
 in_layer edges s e unit ends states (later y zs j) i = in_layer edges s e unit (with_ends ends (edges unit y)) zs j i
 
 -- the end of each edge is in the next layer
-pub end_behind : (edges : Edges) (s : State) (e : Edge) (unit : Unit) (states : List State) → IsIn s states → IsIn e (edges unit s) → IsIn e.to (states_behind edges unit states)
-end_behind edges s e unit states i j = in_layer edges s e unit [] states i j
+pub end_after : (edges : Edges) (s : State) (e : Edge) (unit : Unit) (states : List State) → IsIn s states → IsIn e (edges unit s) → IsIn e.to (states_after edges unit states)
+end_after edges s e unit states i j = in_layer edges s e unit [] states i j
 
 pub not_first : (t s : State) (states : List State) → same_state t s ≡ false → IsIn s (t ∷ states) → IsIn s states
 not_first t s states e (first zs) = absurd (let k : same_state s s ≡ true = same_self s in cc)

@@ -7,9 +7,9 @@ use Rattle.hm_graph_laws.specs.Edges.{Edge, edge_length}
 use Rattle.hm_graph_laws.specs.States.{State, first_state, same_state}
 use Rattle.hm_graph_laws.specs.Units.{Unit}
 use Rattle.hm_graph_laws.specs.Ways.{Edges, Way, lesser, over, best, least, same_price, first_edge, along, first_way}
-use Rattle.hm_graph_laws.specs.Layers.{states_behind, first_layer}
+use Rattle.hm_graph_laws.specs.Layers.{states_after, first_layer}
 use Rattle.hm_graph_laws.specs.Prices.{price_at, least_prices, KeepsEdge, KeepsEdges, KeepsLayer, AreZero, FeasibleFrom, first_price}
-use Rattle.hm_graph_laws.proofs.LayerStates.{end_behind, not_first, price_at-map}
+use Rattle.hm_graph_laws.proofs.LayerStates.{end_after, not_first, price_at-map}
 use Rattle.hm_graph_laws.proofs.States.{same_is, same_self}
 
 -- a price is a number of at most n
@@ -31,9 +31,9 @@ over_at_most : (p : Option ℕ) (len n : ℕ) → AtMost p n → AtMost (over le
 over_at_most None len n h = absurd h
 over_at_most (Some a) len n h = omega arith
 
-pub best_at_most : (e : Edge) (behind : State → Option ℕ) (es : List Edge) (n : ℕ) → IsIn e es → AtMost (behind e.to) n → AtMost (best behind es) (edge_length e + n)
-best_at_most e behind es n (first zs) h = lesser_left (over (edge_length e) (behind e.to)) (best behind zs) (edge_length e + n) (over_at_most (behind e.to) (edge_length e) n h)
-best_at_most e behind es n (later y zs i) h = lesser_right (over (edge_length y) (behind y.to)) (best behind zs) (edge_length e + n) (best_at_most e behind zs n i h)
+pub best_at_most : (e : Edge) (after : State → Option ℕ) (es : List Edge) (n : ℕ) → IsIn e es → AtMost (after e.to) n → AtMost (best after es) (edge_length e + n)
+best_at_most e after es n (first zs) h = lesser_left (over (edge_length e) (after e.to)) (best after zs) (edge_length e + n) (over_at_most (after e.to) (edge_length e) n h)
+best_at_most e after es n (later y zs i) h = lesser_right (over (edge_length y) (after y.to)) (best after zs) (edge_length e + n) (best_at_most e after zs n i h)
 
 along_length : (p rest b : List ℕ) → b ≡ p ++ rest → length b ≡ length p + length rest
 along_length p rest b e = rw e (length-append p rest)
@@ -46,9 +46,9 @@ least_bounds edges (unit ∷ units) s b (e, i, (rest, is, w)) =
     (best_at_most e (least edges units) (edges unit s) (length rest) i (least_bounds edges units e.to rest w))
 
 -- the price comes over this edge
-pub record Reaches (behind : State → Option ℕ) (n : ℕ) (es : List Edge) (e : Edge) : Type 0 where
+pub record Reaches (after : State → Option ℕ) (n : ℕ) (es : List Edge) (e : Edge) : Type 0 where
   pub among : IsIn e es
-  pub price : over (edge_length e) (behind e.to) ≡ Some n
+  pub price : over (edge_length e) (after e.to) ≡ Some n
 
 lesser_cases : (p q : Option ℕ) (n : ℕ) → lesser p q ≡ Some n → (p ≡ Some n) ⊎ (q ≡ Some n)
 lesser_cases None q n e = inr e
@@ -59,16 +59,16 @@ lesser_cases (Some a) (Some b) n e = min_cases (eq-or-lt_of_le (min-le_left a b)
     min_cases (inl h) = inl (cc)
     min_cases (inr h) = inr (let k : min a b ≡ b = omega arith in cc)
 
-reaches_later : (behind : State → Option ℕ) (n : ℕ) (y : Edge) (es : List Edge) → (e : Edge) × Reaches behind n es e → (e : Edge) × Reaches behind n (y ∷ es) e
-reaches_later behind n y es (e, r) = (e, record { among = later y es r.among; price = r.price })
+reaches_later : (after : State → Option ℕ) (n : ℕ) (y : Edge) (es : List Edge) → (e : Edge) × Reaches after n es e → (e : Edge) × Reaches after n (y ∷ es) e
+reaches_later after n y es (e, r) = (e, record { among = later y es r.among; price = r.price })
 
-some_reaches : (behind : State → Option ℕ) (n : ℕ) (es : List Edge) → best behind es ≡ Some n → (e : Edge) × Reaches behind n es e
-some_reaches behind n [] e = absurd (cc)
-some_reaches behind n (x ∷ es) e = by_cases (lesser_cases (over (edge_length x) (behind x.to)) (best behind es) n e) (λ h. some_reaches behind n es h)
+some_reaches : (after : State → Option ℕ) (n : ℕ) (es : List Edge) → best after es ≡ Some n → (e : Edge) × Reaches after n es e
+some_reaches after n [] e = absurd (cc)
+some_reaches after n (x ∷ es) e = by_cases (lesser_cases (over (edge_length x) (after x.to)) (best after es) n e) (λ h. some_reaches after n es h)
   where
-    by_cases : (over (edge_length x) (behind x.to) ≡ Some n) ⊎ (best behind es ≡ Some n) → (best behind es ≡ Some n → (e : Edge) × Reaches behind n es e) → (e : Edge) × Reaches behind n (x ∷ es) e
+    by_cases : (over (edge_length x) (after x.to) ≡ Some n) ⊎ (best after es ≡ Some n) → (best after es ≡ Some n → (e : Edge) × Reaches after n es e) → (e : Edge) × Reaches after n (x ∷ es) e
     by_cases (inl h) more = (x, record { among = first es; price = h })
-    by_cases (inr h) more = reaches_later behind n x es (more h)
+    by_cases (inr h) more = reaches_later after n x es (more h)
 
 same_price_is : (p q : Option ℕ) → same_price p q ≡ true → p ≡ q
 same_price_is None None e = refl
@@ -81,32 +81,32 @@ same_price_self None = refl
 same_price_self (Some a) = eq-eqb a a refl
 
 -- the first edge over which the price comes
-pub record IsFirst (behind : State → Option ℕ) (n : ℕ) (es : List Edge) (e : Edge) : Type 0 where
-  pub found : first_edge behind (Some n) es ≡ Some e
-  pub reaches : Reaches behind n es e
+pub record IsFirst (after : State → Option ℕ) (n : ℕ) (es : List Edge) (e : Edge) : Type 0 where
+  pub found : first_edge after (Some n) es ≡ Some e
+  pub reaches : Reaches after n es e
 
-is_first_later : (behind : State → Option ℕ) (n : ℕ) (y : Edge) (es : List Edge) → same_price (over (edge_length y) (behind y.to)) (Some n) ≡ false → (e : Edge) × IsFirst behind n es e → (e : Edge) × IsFirst behind n (y ∷ es) e
-is_first_later behind n y es differs (e, f) = (e, record { found = rw differs f.found; reaches = record { among = later y es f.reaches.among; price = f.reaches.price } })
+is_first_later : (after : State → Option ℕ) (n : ℕ) (y : Edge) (es : List Edge) → same_price (over (edge_length y) (after y.to)) (Some n) ≡ false → (e : Edge) × IsFirst after n es e → (e : Edge) × IsFirst after n (y ∷ es) e
+is_first_later after n y es differs (e, f) = (e, record { found = rw differs f.found; reaches = record { among = later y es f.reaches.among; price = f.reaches.price } })
 
 -- where it isn't the first edge, it is among the later ones
-not_here : (x : Edge) (behind : State → Option ℕ) (n : ℕ) (y : Edge) (es : List Edge) → same_price (over (edge_length y) (behind y.to)) (Some n) ≡ false → over (edge_length x) (behind x.to) ≡ Some n → IsIn x (y ∷ es) → IsIn x es
-not_here x behind n y es differs e (first zs) = absurd (let k : same_price (over (edge_length x) (behind x.to)) (Some n) ≡ true = rw e (same_price_self (Some n)) in cc)
-not_here x behind n y es differs e (later z zs i) = i
+not_here : (x : Edge) (after : State → Option ℕ) (n : ℕ) (y : Edge) (es : List Edge) → same_price (over (edge_length y) (after y.to)) (Some n) ≡ false → over (edge_length x) (after x.to) ≡ Some n → IsIn x (y ∷ es) → IsIn x es
+not_here x after n y es differs e (first zs) = absurd (let k : same_price (over (edge_length x) (after x.to)) (Some n) ≡ true = rw e (same_price_self (Some n)) in cc)
+not_here x after n y es differs e (later z zs i) = i
 
-has_first : (x : Edge) (behind : State → Option ℕ) (n : ℕ) (es : List Edge) → Reaches behind n es x → (e : Edge) × IsFirst behind n es e
-has_first x behind n [] r = elim r.among [ ]
-has_first x behind n (y ∷ es) r = by_test (same_price (over (edge_length y) (behind y.to)) (Some n)) refl (λ q. has_first x behind n es q)
+has_first : (x : Edge) (after : State → Option ℕ) (n : ℕ) (es : List Edge) → Reaches after n es x → (e : Edge) × IsFirst after n es e
+has_first x after n [] r = elim r.among [ ]
+has_first x after n (y ∷ es) r = by_test (same_price (over (edge_length y) (after y.to)) (Some n)) refl (λ q. has_first x after n es q)
   where
-    by_test : (b : Bool) → same_price (over (edge_length y) (behind y.to)) (Some n) ≡ b → (Reaches behind n es x → (e : Edge) × IsFirst behind n es e) → (e : Edge) × IsFirst behind n (y ∷ es) e
-    by_test true e more = (y, record { found = rw e refl; reaches = record { among = first es; price = same_price_is (over (edge_length y) (behind y.to)) (Some n) e } })
-    by_test false e more = is_first_later behind n y es e (more (record { among = not_here x behind n y es e r.price r.among; price = r.price }))
+    by_test : (b : Bool) → same_price (over (edge_length y) (after y.to)) (Some n) ≡ b → (Reaches after n es x → (e : Edge) × IsFirst after n es e) → (e : Edge) × IsFirst after n (y ∷ es) e
+    by_test true e more = (y, record { found = rw e refl; reaches = record { among = first es; price = same_price_is (over (edge_length y) (after y.to)) (Some n) e } })
+    by_test false e more = is_first_later after n y es e (more (record { among = not_here x after n y es e r.price r.among; price = r.price }))
 
 -- a least price has a first edge over which it comes
-pub first_of_best : (behind : State → Option ℕ) (n : ℕ) (es : List Edge) → best behind es ≡ Some n → (e : Edge) × IsFirst behind n es e
-first_of_best behind n es h = from_one (some_reaches behind n es h)
+pub first_of_best : (after : State → Option ℕ) (n : ℕ) (es : List Edge) → best after es ≡ Some n → (e : Edge) × IsFirst after n es e
+first_of_best after n es h = from_one (some_reaches after n es h)
   where
-    from_one : (e : Edge) × Reaches behind n es e → (e : Edge) × IsFirst behind n es e
-    from_one (x, r) = has_first x behind n es r
+    from_one : (e : Edge) × Reaches after n es e → (e : Edge) × IsFirst after n es e
+    from_one (x, r) = has_first x after n es r
 
 pub over_is : (len n : ℕ) (p : Option ℕ) → over len p ≡ Some n → (m : ℕ) × (p ≡ Some m) × (n ≡ len + m)
 over_is len n None e = absurd (cc)
@@ -142,17 +142,17 @@ first_least edges (unit ∷ units) = refl
 
 -- Prices that keep the rules
 
-keeps_at : (e : Edge) (price : Option ℕ) (behind : State → Option ℕ) (es : List Edge) → KeepsEdges price behind es → IsIn e es → KeepsEdge price (edge_length e) (behind e.to)
-keeps_at e price behind es k (first zs) = k.0
-keeps_at e price behind es k (later y zs i) = keeps_at e price behind zs k.1 i
+keeps_at : (e : Edge) (price : Option ℕ) (after : State → Option ℕ) (es : List Edge) → KeepsEdges price after es → IsIn e es → KeepsEdge price (edge_length e) (after e.to)
+keeps_at e price after es k (first zs) = k.0
+keeps_at e price after es k (later y zs i) = keeps_at e price after zs k.1 i
 
-row_keeps : (edges : Edges) (unit : Unit) (behind : State → Option ℕ) (states : List State) (row : List (Option ℕ)) (s : State) → KeepsLayer edges unit behind states row → IsIn s states → KeepsEdges (price_at states row s) behind (edges unit s)
-row_keeps edges unit behind [] row s k i = elim i [ ]
-row_keeps edges unit behind (t ∷ states) [] s k i = absurd k
-row_keeps edges unit behind (t ∷ states) (q ∷ row) s k i =
-    elim (same_state t s) as (λ b. same_state t s ≡ b → KeepsEdges (cond b q (price_at states row s)) behind (edges unit s)) [
-      | true ↦ λ e. subst (λ x. KeepsEdges q behind (edges unit x)) (same_is t s e) k.0
-      | false ↦ λ e. row_keeps edges unit behind states row s k.1 (not_first t s states e i)
+row_keeps : (edges : Edges) (unit : Unit) (after : State → Option ℕ) (states : List State) (row : List (Option ℕ)) (s : State) → KeepsLayer edges unit after states row → IsIn s states → KeepsEdges (price_at states row s) after (edges unit s)
+row_keeps edges unit after [] row s k i = elim i [ ]
+row_keeps edges unit after (t ∷ states) [] s k i = absurd k
+row_keeps edges unit after (t ∷ states) (q ∷ row) s k i =
+    elim (same_state t s) as (λ b. same_state t s ≡ b → KeepsEdges (cond b q (price_at states row s)) after (edges unit s)) [
+      | true ↦ λ e. subst (λ x. KeepsEdges q after (edges unit x)) (same_is t s e) k.0
+      | false ↦ λ e. row_keeps edges unit after states row s k.1 (not_first t s states e i)
     ] refl
 
 zero_at : (states : List State) (row : List (Option ℕ)) (s : State) → AreZero states row → IsIn s states → price_at states row s ≡ Some 0
@@ -182,10 +182,10 @@ feasible_bounds edges [] states (row ∷ []) s b f i w = subst (λ p. AtMost p (
 feasible_bounds edges [] states (row ∷ next ∷ rows) s b f i w = absurd f
 feasible_bounds edges (unit ∷ units) states (row ∷ []) s b f i w = absurd f
 feasible_bounds edges (unit ∷ units) states (row ∷ next ∷ rows) s b f i (e, j, (rest, is, w)) =
-    let behind : State → Option ℕ = price_at (states_behind edges unit states) next in
+    let after : State → Option ℕ = price_at (states_after edges unit states) next in
     subst (AtMost (price_at states row s)) (sym (along_length (e.bytes) rest b is))
-    (over_edge (price_at states row s) (behind e.to) (edge_length e) (length rest) (keeps_at e (price_at states row s) behind (edges unit s) (row_keeps edges unit behind states row s f.0 i) j)
-    (feasible_bounds edges units (states_behind edges unit states) (next ∷ rows) e.to rest f.1 (end_behind edges s e unit states i j) w))
+    (over_edge (price_at states row s) (after e.to) (edge_length e) (length rest) (keeps_at e (price_at states row s) after (edges unit s) (row_keeps edges unit after states row s f.0 i) j)
+    (feasible_bounds edges units (states_after edges unit states) (next ∷ rows) e.to rest f.1 (end_after edges s e unit states i j) w))
 
 first_front : (rows : List (List (Option ℕ))) (n : ℕ) → first_price rows ≡ Some n → front_price first_layer rows first_state ≡ Some n
 unfolding front_price
@@ -204,33 +204,33 @@ keeps_lesser p None len (Some b) k = absurd k
 keeps_lesser None (Some a) len (Some b) k = k
 keeps_lesser (Some c) (Some a) len (Some b) k = omega arith
 
-keeps_lesser_all : (p q : Option ℕ) (behind : State → Option ℕ) (es : List Edge) → KeepsEdges q behind es → KeepsEdges (lesser p q) behind es
-keeps_lesser_all p q behind [] k = tt
-keeps_lesser_all p q behind (e ∷ es) k = (keeps_lesser p q (edge_length e) (behind e.to) k.0, keeps_lesser_all p q behind es k.1)
+keeps_lesser_all : (p q : Option ℕ) (after : State → Option ℕ) (es : List Edge) → KeepsEdges q after es → KeepsEdges (lesser p q) after es
+keeps_lesser_all p q after [] k = tt
+keeps_lesser_all p q after (e ∷ es) k = (keeps_lesser p q (edge_length e) (after e.to) k.0, keeps_lesser_all p q after es k.1)
 
 keeps_over : (len : ℕ) (b q : Option ℕ) → KeepsEdge (lesser (over len b) q) len b
 keeps_over len None q = tt
 keeps_over len (Some b) None = omega arith
 keeps_over len (Some b) (Some a) = omega arith
 
-keeps_best : (behind : State → Option ℕ) (es : List Edge) → KeepsEdges (best behind es) behind es
-keeps_best behind [] = tt
-keeps_best behind (e ∷ es) = (keeps_over (edge_length e) (behind e.to) (best behind es), keeps_lesser_all (over (edge_length e) (behind e.to)) (best behind es) behind es (keeps_best behind es))
+keeps_best : (after : State → Option ℕ) (es : List Edge) → KeepsEdges (best after es) after es
+keeps_best after [] = tt
+keeps_best after (e ∷ es) = (keeps_over (edge_length e) (after e.to) (best after es), keeps_lesser_all (over (edge_length e) (after e.to)) (best after es) after es (keeps_best after es))
 
 keeps_same : (f g : State → Option ℕ) (p : Option ℕ) (es : List Edge) → ((e : Edge) → IsIn e es → f e.to ≡ g e.to) → KeepsEdges p f es → KeepsEdges p g es
 keeps_same f g p [] h k = tt
 keeps_same f g p (e ∷ es) h k = (subst (KeepsEdge p (edge_length e)) (h e (first es)) k.0, keeps_same f g p es (λ x i. h x (later e es i)) k.1)
 
-keeps_map : (edges : Edges) (unit : Unit) (f behind : State → Option ℕ) (states : List State) → ((s : State) → IsIn s states → KeepsEdges (f s) behind (edges unit s)) → KeepsLayer edges unit behind states (map f states)
-keeps_map edges unit f behind [] h = tt
-keeps_map edges unit f behind (s ∷ states) h = (h s (first states), keeps_map edges unit f behind states (λ t i. h t (later s states i)))
+keeps_map : (edges : Edges) (unit : Unit) (f after : State → Option ℕ) (states : List State) → ((s : State) → IsIn s states → KeepsEdges (f s) after (edges unit s)) → KeepsLayer edges unit after states (map f states)
+keeps_map edges unit f after [] h = tt
+keeps_map edges unit f after (s ∷ states) h = (h s (first states), keeps_map edges unit f after states (λ t i. h t (later s states i)))
 
 least_keeps : (edges : Edges) (unit : Unit) (units : List Unit) (states : List State)
-    → KeepsLayer edges unit (price_at (states_behind edges unit states) (map (least edges units) (states_behind edges unit states))) states (map (least edges (unit ∷ units)) states)
+    → KeepsLayer edges unit (price_at (states_after edges unit states) (map (least edges units) (states_after edges unit states))) states (map (least edges (unit ∷ units)) states)
 least_keeps edges unit units states =
-    let behind : State → Option ℕ = price_at (states_behind edges unit states) (map (least edges units) (states_behind edges unit states)) in
-    keeps_map edges unit (least edges (unit ∷ units)) behind states (λ s i.
-    keeps_same (least edges units) behind (least edges (unit ∷ units) s) (edges unit s) (λ e j. sym (price_at-map (least edges units) (states_behind edges unit states) e.to (end_behind edges s e unit states i j)))
+    let after : State → Option ℕ = price_at (states_after edges unit states) (map (least edges units) (states_after edges unit states)) in
+    keeps_map edges unit (least edges (unit ∷ units)) after states (λ s i.
+    keeps_same (least edges units) after (least edges (unit ∷ units) s) (edges unit s) (λ e j. sym (price_at-map (least edges units) (states_after edges unit states) e.to (end_after edges s e unit states i j)))
     (keeps_best (least edges units) (edges unit s)))
 
 zero_map : (edges : Edges) (states : List State) → AreZero states (map (least edges []) states)
@@ -239,8 +239,8 @@ zero_map edges (s ∷ states) = (refl, zero_map edges states)
 
 pub least_feasible : (edges : Edges) (units : List Unit) (states : List State) → FeasibleFrom edges units states (least_prices edges units states)
 least_feasible edges [] states = zero_map edges states
-least_feasible edges (unit ∷ []) states = (least_keeps edges unit [] states, zero_map edges (states_behind edges unit states))
-least_feasible edges (unit ∷ next ∷ units) states = (least_keeps edges unit (next ∷ units) states, least_feasible edges (next ∷ units) (states_behind edges unit states))
+least_feasible edges (unit ∷ []) states = (least_keeps edges unit [] states, zero_map edges (states_after edges unit states))
+least_feasible edges (unit ∷ next ∷ units) states = (least_keeps edges unit (next ∷ units) states, least_feasible edges (next ∷ units) (states_after edges unit states))
 
 -- ---- As laws
 

@@ -2,7 +2,7 @@
 use Rattle.std.proofs.Common.{◌≡◌, ℕ, ◌+◌, ◌^◌, ◌<◌, ◌≤◌, Bool, true, false, cond, ◌||◌, ◌==◌, not, List, [], ◌∷◌, ◌++◌, length, Option, Some, None, refl, sym, ap, ◌∙◌, subst, append_assoc, inl, inr, ◌⊎◌, arith, length-append}
 use Rattle.std.specs.Fmt as digits
 use Rattle.std.proofs.lemmas.Bool.{and_parts}
-use Rattle.hm_base.specs.Bytes.{all_pass, behind, front, head_is, is_digit, is_digit_of, is_hex, is_null}
+use Rattle.hm_base.specs.Bytes.{all_pass, rest_after, front, head_is, is_digit, is_digit_of, is_hex, is_null}
 use Rattle.hm_refs.specs.Laws.{Gives, is_shorter_in_hexadecimal}
 use Rattle.hm_refs.specs.Names.{Entry}
 use Rattle.hm_refs.specs.Numbers.{best_number, point_of}
@@ -29,16 +29,16 @@ front_all p [] [] a h = refl
 front_all p [] (c ∷ x) a h = rw h refl
 front_all p (d ∷ ds) x a h = let both = and_parts (p d) (all_pass p ds) a in rw both.0 (ap (λ w. d ∷ w) (front_all p ds x both.1 h))
 
-behind_all : (p : ℕ → Bool) (ds x : List ℕ) → all_pass p ds ≡ true → head_is p x ≡ false → behind p (ds ++ x) ≡ x
-behind_all p [] [] a h = refl
-behind_all p [] (c ∷ x) a h = rw h refl
-behind_all p (d ∷ ds) x a h = let both = and_parts (p d) (all_pass p ds) a in rw both.0 (behind_all p ds x both.1 h)
+after_all : (p : ℕ → Bool) (ds x : List ℕ) → all_pass p ds ≡ true → head_is p x ≡ false → rest_after p (ds ++ x) ≡ x
+after_all p [] [] a h = refl
+after_all p [] (c ∷ x) a h = rw h refl
+after_all p (d ∷ ds) x a h = let both = and_parts (p d) (all_pass p ds) a in rw both.0 (after_all p ds x both.1 h)
 
-front_behind : (p : ℕ → Bool) (s : List ℕ) → (front p s ++ behind p s ≡ s) × (head_is p (behind p s) ≡ false)
-front_behind p [] = (refl, refl)
-front_behind p (c ∷ s) = by_test (p c) refl (front_behind p s)
+front_after : (p : ℕ → Bool) (s : List ℕ) → (front p s ++ rest_after p s ≡ s) × (head_is p (rest_after p s) ≡ false)
+front_after p [] = (refl, refl)
+front_after p (c ∷ s) = by_test (p c) refl (front_after p s)
   where
-    by_test : (b : Bool) → p c ≡ b → (front p s ++ behind p s ≡ s) × (head_is p (behind p s) ≡ false) → (cond b (c ∷ front p s) [] ++ cond b (behind p s) (c ∷ s) ≡ c ∷ s) × (head_is p (cond b (behind p s) (c ∷ s)) ≡ false)
+    by_test : (b : Bool) → p c ≡ b → (front p s ++ rest_after p s ≡ s) × (head_is p (rest_after p s) ≡ false) → (cond b (c ∷ front p s) [] ++ cond b (rest_after p s) (c ∷ s) ≡ c ∷ s) × (head_is p (cond b (rest_after p s) (c ∷ s)) ≡ false)
     by_test true h more = (ap (λ w. c ∷ w) more.0, more.1)
     by_test false h more = (refl, h)
 
@@ -69,10 +69,10 @@ decimal_read t v [] x a s h = absurd (cc)
 decimal_read t v (d ∷ ds) x a s h = reference_hash t v (d ∷ (ds ++ x)) ∙ by_front (and_parts (is_digit_of 10 d) (all_pass (is_digit_of 10) ds) a)
   where
     by_front : (is_digit_of 10 d ≡ true) × (all_pass (is_digit_of 10) ds ≡ true) → references.hash (d ∷ (ds ++ x)) ≡ numeric 2 10 (d ∷ ds) x
-    by_front both = rw (not_x d both.0, both.0, front_all (is_digit_of 10) ds x both.1 h, behind_all (is_digit_of 10) ds x both.1 h) refl
+    by_front both = rw (not_x d both.0, both.0, front_all (is_digit_of 10) ds x both.1 h, after_all (is_digit_of 10) ds x both.1 h) refl
 
 pub hex_read : (t : List Entry) (v : Bool) (ds x : List ℕ) → all_pass (is_digit_of 16) ds ≡ true → head_is (is_digit_of 16) x ≡ false → reference t v (38 ∷ 35 ∷ 120 ∷ (ds ++ x)) ≡ numeric 3 16 ds x
-hex_read t v ds x a h = reference_hash t v (120 ∷ (ds ++ x)) ∙ rw (front_all (is_digit_of 16) ds x a h, behind_all (is_digit_of 16) ds x a h) refl
+hex_read t v ds x a h = reference_hash t v (120 ∷ (ds ++ x)) ∙ rw (front_all (is_digit_of 16) ds x a h, after_all (is_digit_of 16) ds x a h) refl
 
 numeric_some : (before base c : ℕ) (ds x : List ℕ) (n : ℕ) → is_null ds ≡ false → point_of (value_of base ds) ≡ c → before + length ds + cond (head_is is_semicolon x) 1 0 ≡ n → numeric before base ds x ≡ Some (record { points = c ∷ []; len = n })
 numeric_some before base c [] x n s p l = absurd (cc)
@@ -215,8 +215,8 @@ hash_is [] r h = absurd (cc)
 hash_is (c ∷ s) r h = by_x (120 == c || 88 == c) h
   where
     by_x : (b : Bool) → cond b (references.hexadecimal s) (decimal_number (c ∷ s)) ≡ Some r → NumberAt 2 10 [] (c ∷ s) r ⊎ ((d : ℕ) × NumberAt 3 16 (d ∷ []) (c ∷ s) r)
-    by_x true k = let f = front_behind (is_digit_of 16) s in inr (c, record { digits_are = front (is_digit_of 16) s; rest = behind (is_digit_of 16) s; cut = ap (λ w. c ∷ w) (sym f.0); all = front_passes (is_digit_of 16) s; ends = f.1; numeric_is = numeric_is 3 16 (front (is_digit_of 16) s) (behind (is_digit_of 16) s) r k })
-    by_x false k = let f = front_behind (is_digit_of 10) (c ∷ s) in inl (record { digits_are = front (is_digit_of 10) (c ∷ s); rest = behind (is_digit_of 10) (c ∷ s); cut = sym f.0; all = front_passes (is_digit_of 10) (c ∷ s); ends = f.1; numeric_is = numeric_is 2 10 (front (is_digit_of 10) (c ∷ s)) (behind (is_digit_of 10) (c ∷ s)) r k })
+    by_x true k = let f = front_after (is_digit_of 16) s in inr (c, record { digits_are = front (is_digit_of 16) s; rest = rest_after (is_digit_of 16) s; cut = ap (λ w. c ∷ w) (sym f.0); all = front_passes (is_digit_of 16) s; ends = f.1; numeric_is = numeric_is 3 16 (front (is_digit_of 16) s) (rest_after (is_digit_of 16) s) r k })
+    by_x false k = let f = front_after (is_digit_of 10) (c ∷ s) in inl (record { digits_are = front (is_digit_of 10) (c ∷ s); rest = rest_after (is_digit_of 10) (c ∷ s); cut = sym f.0; all = front_passes (is_digit_of 10) (c ∷ s); ends = f.1; numeric_is = numeric_is 2 10 (front (is_digit_of 10) (c ∷ s)) (rest_after (is_digit_of 10) (c ∷ s)) r k })
 
 -- a number stands for one point
 pub hash_one : (s : List ℕ) (r : Reference) → references.hash s ≡ Some r → (n : ℕ) × (r.points ≡ n ∷ [])

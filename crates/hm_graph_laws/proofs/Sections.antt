@@ -3,9 +3,9 @@ use Rattle.std.proofs.Common.{◌≡◌, ℕ, Bool, true, false, cond, ◌||◌,
 use Rattle.hm_base.specs.Forms.{has_mark}
 use Rattle.hm_refs.proofs.Bools.{eq_of}
 use Rattle.hm_spelling_spec.specs.Characters.{Spot, text, rcdata, foreign, unquoted, double, single, is_foreign, is_value}
-use Rattle.hm_graph_laws.specs.CharacterEdges.{closes_section, in_section_behind, is_in_section, is_outside}
+use Rattle.hm_graph_laws.specs.CharacterEdges.{closes_section, in_section_after, is_in_section, is_outside}
 use Rattle.hm_graph_laws.specs.CharacterLaws.{is_in_value, stands_at}
-use Rattle.hm_graph_laws.specs.States.{Where, outside, loose, self_closed, behind_name, behind_unquoted, behind_quoted, in_unquoted, in_double, in_single, in_section, Pending, nothing, less_than, hash, hash_x, decimal, hexadecimal, ampersand, named, half, one_bracket, two_brackets}
+use Rattle.hm_graph_laws.specs.States.{Where, outside, loose, self_closed, after_name, after_unquoted, after_quoted, in_unquoted, in_double, in_single, in_section, Pending, nothing, less_than, hash, hash_x, decimal, hexadecimal, ampersand, named, half, one_bracket, two_brackets}
 use Rattle.hm_graph_laws.specs.Units.{TextKind, in_text, in_rcdata, in_foreign, in_value}
 
 -- the brackets that are pending
@@ -29,22 +29,22 @@ one_more c s h = rw (no_bracket c h) refl
 two_more : (c : ℕ) (s : List ℕ) → (c == 93) ≡ false → (c == 62) ≡ false → has_mark (codes "]]>") (93 ∷ 93 ∷ c ∷ s) ≡ has_mark (codes "]]>") s
 two_more c s h k = rw (no_bracket c h, no_end c k) refl
 
-behind_none : (c : ℕ) (s : List ℕ) → has_mark (codes "]]>") (c ∷ s) ≡ has_mark (codes "]]>") (brackets (cond (c == 93) one_bracket nothing) ++ s)
-behind_none c s = by_test (c == 93) refl
+after_none : (c : ℕ) (s : List ℕ) → has_mark (codes "]]>") (c ∷ s) ≡ has_mark (codes "]]>") (brackets (cond (c == 93) one_bracket nothing) ++ s)
+after_none c s = by_test (c == 93) refl
   where
     by_test : (b : Bool) → (c == 93) ≡ b → has_mark (codes "]]>") (c ∷ s) ≡ has_mark (codes "]]>") (brackets (cond b one_bracket nothing) ++ s)
     by_test true e = subst (λ d. has_mark (codes "]]>") (d ∷ s) ≡ has_mark (codes "]]>") (93 ∷ s)) (sym (eq_of c 93 e)) refl
     by_test false e = ended_more c s e
 
-behind_one : (c : ℕ) (s : List ℕ) → has_mark (codes "]]>") (93 ∷ c ∷ s) ≡ has_mark (codes "]]>") (brackets (cond (c == 93) two_brackets nothing) ++ s)
-behind_one c s = by_test (c == 93) refl
+after_one : (c : ℕ) (s : List ℕ) → has_mark (codes "]]>") (93 ∷ c ∷ s) ≡ has_mark (codes "]]>") (brackets (cond (c == 93) two_brackets nothing) ++ s)
+after_one c s = by_test (c == 93) refl
   where
     by_test : (b : Bool) → (c == 93) ≡ b → has_mark (codes "]]>") (93 ∷ c ∷ s) ≡ has_mark (codes "]]>") (brackets (cond b two_brackets nothing) ++ s)
     by_test true e = subst (λ d. has_mark (codes "]]>") (93 ∷ d ∷ s) ≡ has_mark (codes "]]>") (93 ∷ 93 ∷ s)) (sym (eq_of c 93 e)) refl
     by_test false e = one_more c s e
 
-behind_two : (c : ℕ) (s : List ℕ) → has_mark (codes "]]>") (93 ∷ 93 ∷ c ∷ s) ≡ ((c == 62) || has_mark (codes "]]>") (brackets (cond (c == 93) two_brackets nothing) ++ s))
-behind_two c s = by_tests (c == 93) (c == 62) refl refl
+after_two : (c : ℕ) (s : List ℕ) → has_mark (codes "]]>") (93 ∷ 93 ∷ c ∷ s) ≡ ((c == 62) || has_mark (codes "]]>") (brackets (cond (c == 93) two_brackets nothing) ++ s))
+after_two c s = by_tests (c == 93) (c == 62) refl refl
   where
     by_tests : (b e : Bool) → (c == 93) ≡ b → (c == 62) ≡ e → has_mark (codes "]]>") (93 ∷ 93 ∷ c ∷ s) ≡ (e || has_mark (codes "]]>") (brackets (cond b two_brackets nothing) ++ s))
     by_tests b true h k = subst (λ d. has_mark (codes "]]>") (93 ∷ 93 ∷ d ∷ s) ≡ true) (sym (eq_of c 62 k)) refl
@@ -52,18 +52,18 @@ behind_two c s = by_tests (c == 93) (c == 62) refl refl
     by_tests false false h k = two_more c s h k
 
 -- one character on
-pub mark_step : (c : ℕ) (p : Pending) (s : List ℕ) → has_mark (codes "]]>") (brackets p ++ c ∷ s) ≡ (closes_section c p || has_mark (codes "]]>") (brackets (in_section_behind c p) ++ s))
-mark_step c nothing s = behind_none c s
-mark_step c less_than s = behind_one c s
-mark_step c hash s = behind_one c s
-mark_step c hash_x s = behind_one c s
-mark_step c decimal s = behind_one c s
-mark_step c hexadecimal s = behind_one c s
-mark_step c (ampersand q) s = behind_one c s
-mark_step c (named q) s = behind_one c s
-mark_step c (half left) s = behind_one c s
-mark_step c one_bracket s = behind_one c s
-mark_step c two_brackets s = behind_two c s
+pub mark_step : (c : ℕ) (p : Pending) (s : List ℕ) → has_mark (codes "]]>") (brackets p ++ c ∷ s) ≡ (closes_section c p || has_mark (codes "]]>") (brackets (in_section_after c p) ++ s))
+mark_step c nothing s = after_none c s
+mark_step c less_than s = after_one c s
+mark_step c hash s = after_one c s
+mark_step c hash_x s = after_one c s
+mark_step c decimal s = after_one c s
+mark_step c hexadecimal s = after_one c s
+mark_step c (ampersand q) s = after_one c s
+mark_step c (named q) s = after_one c s
+mark_step c (half left) s = after_one c s
+mark_step c one_bracket s = after_one c s
+mark_step c two_brackets s = after_two c s
 
 pub unended : (p : Pending) → has_mark (codes "]]>") (brackets p ++ []) ≡ false
 unended nothing = refl
@@ -84,9 +84,9 @@ pub outside_at : (at : Where) → is_outside at ≡ true → at ≡ outside
 outside_at outside h = refl
 outside_at loose h = absurd (cc)
 outside_at self_closed h = absurd (cc)
-outside_at behind_name h = absurd (cc)
-outside_at behind_unquoted h = absurd (cc)
-outside_at behind_quoted h = absurd (cc)
+outside_at after_name h = absurd (cc)
+outside_at after_unquoted h = absurd (cc)
+outside_at after_quoted h = absurd (cc)
 outside_at in_unquoted h = absurd (cc)
 outside_at in_double h = absurd (cc)
 outside_at in_single h = absurd (cc)
@@ -96,9 +96,9 @@ value_open : (at : Where) → is_in_value at ≡ true → is_in_section at ≡ f
 value_open outside h = absurd (cc)
 value_open loose h = absurd (cc)
 value_open self_closed h = absurd (cc)
-value_open behind_name h = absurd (cc)
-value_open behind_unquoted h = absurd (cc)
-value_open behind_quoted h = absurd (cc)
+value_open after_name h = absurd (cc)
+value_open after_unquoted h = absurd (cc)
+value_open after_quoted h = absurd (cc)
 value_open in_unquoted h = refl
 value_open in_double h = refl
 value_open in_single h = refl

@@ -12,10 +12,10 @@ pub record Parted (es : Edges) (us vs : List Unit) (from : State) (b : List ℕ)
   pub right : List ℕ
   pub whole : b ≡ left ++ right
   pub before : WayTo es us from left middle
-  pub behind : WayTo es vs middle right to
+  pub after : WayTo es vs middle right to
 
 pub way_parts : (es : Edges) (us vs : List Unit) (from : State) (b : List ℕ) (to : State) → WayTo es (us ++ vs) from b to → Parted es us vs from b to
-way_parts es [] vs from b to w = record { middle = from; left = []; right = b; whole = refl; before = (refl, refl); behind = w }
+way_parts es [] vs from b to w = record { middle = from; left = []; right = b; whole = refl; before = (refl, refl); after = w }
 way_parts es (unit ∷ us) vs from b to (e, i, (rest, is, w)) =
     let p = way_parts es us vs e.to rest to w in
     record {
@@ -24,7 +24,7 @@ way_parts es (unit ∷ us) vs from b to (e, i, (rest, is, w)) =
       right = p.right;
       whole = is ∙ ap (λ x. e.bytes ++ x) p.whole ∙ sym (append_assoc e.bytes p.left p.right);
       before = (e, i, (p.left, refl, p.before));
-      behind = p.behind;
+      after = p.after;
     }
 
 pub join_ways : (es : Edges) (us vs : List Unit) (from middle to : State) (b c : List ℕ) → WayTo es us from b middle → WayTo es vs middle c to → WayTo es (us ++ vs) from (b ++ c) to

@@ -1,12 +1,12 @@
 -- One step keeps the meaning of what is pending.
 use Rattle.std.proofs.Common.{◌≡◌, ℕ, Bool, true, false, cond, ◌&&◌, ◌||◌, ◌==◌, not, List, [], ◌∷◌, ◌++◌, Option, Some, None, refl, sym, ◌∙◌, subst, inl, inr, ◌⊎◌, arith, is_some, is_none}
-use Rattle.hm_base.specs.Bytes.{behind, front, is_alnum, is_digit, is_digit_of, is_hex, is_letter, is_null}
+use Rattle.hm_base.specs.Bytes.{rest_after, front, is_alnum, is_digit, is_digit_of, is_hex, is_letter, is_null}
 use Rattle.hm_refs.specs.Names.{Entry, Found, found, found_here, is_front, is_name, last_is, or_else}
 use Rattle.hm_refs.specs.References.{blocks, is_blocked, is_semicolon, numeric}
 use Rattle.hm_refs.specs.Tables.{IsTable}
 use Rattle.hm_spelling_spec.specs.Characters.{Spot, is_value, opens}
 use Rattle.hm_graph_laws.specs.States.{one_bracket, two_brackets, Pending, ampersand, decimal, half, hash, hash_x, hexadecimal, less_than, named, nothing}
-use Rattle.hm_graph_laws.specs.Steps.{Fits, FitsAfter, IsOpen, ampersand_in_text, ampersand_in_value, goes_on_decimal, goes_on_hexadecimal, is_hash, is_root, keeps, keeps_after, may_end, named_in_text, named_in_value, onto, passes, reference_behind, step, unless}
+use Rattle.hm_graph_laws.specs.Steps.{Fits, FitsAfter, IsOpen, ampersand_in_text, ampersand_in_value, goes_on_decimal, goes_on_hexadecimal, is_hash, is_root, keeps, keeps_after, may_end, named_in_text, named_in_value, onto, passes, reference_after, step, unless}
 use Rattle.hm_refs.specs.References as references
 use Rattle.hm_refs.proofs.Bools.{eq_of}
 use Rattle.hm_refs.proofs.Found.{or_else_none, here_none, here_some, found_not_name, semicolon_found, last_append, found_none, found_some, child_is, null_append}
@@ -18,10 +18,10 @@ root_child (x ∷ []) c h = grind (arith)
 root_child (x ∷ y ∷ q) c h = grind (arith)
 
 -- at a child '#' has no special meaning
-behind_child : (t : List Entry) (v : Bool) (q s : List ℕ) (c : ℕ) → is_null q ≡ false → reference_behind t v (q ++ c ∷ []) s ≡ references.named v (found t (q ++ c ∷ []) s)
-unfolding reference_behind
-behind_child t v q [] c h = refl
-behind_child t v q (d ∷ s) c h = rw (root_child q c h) refl
+after_child : (t : List Entry) (v : Bool) (q s : List ℕ) (c : ℕ) → is_null q ≡ false → reference_after t v (q ++ c ∷ []) s ≡ references.named v (found t (q ++ c ∷ []) s)
+unfolding reference_after
+after_child t v q [] c h = refl
+after_child t v q (d ∷ s) c h = rw (root_child q c h) refl
 
 -- what is read after a child, or after no child
 onto_law : (t : List Entry) (spot : Spot) (q s : List ℕ) (c : ℕ) → is_null q ≡ false → keeps_after t spot (onto ampersand t q c) s ≡ is_none (references.named (is_value spot) (found t (q ++ c ∷ []) s))
@@ -29,7 +29,7 @@ unfolding onto
 onto_law t spot q s c h = by_front (is_front t (q ++ c ∷ [])) refl
   where
     by_front : (b : Bool) → is_front t (q ++ c ∷ []) ≡ b → keeps_after t spot (cond b (Some (ampersand (q ++ c ∷ []))) (Some nothing)) s ≡ is_none (references.named (is_value spot) (found t (q ++ c ∷ []) s))
-    by_front true k = rw (behind_child t (is_value spot) q s c h) refl
+    by_front true k = rw (after_child t (is_value spot) q s c h) refl
     by_front false k = rw (found_none t (q ++ c ∷ []) s k) refl
 
 some_none : (f : Option Found) → is_some f ≡ true → is_none f ≡ false
@@ -53,8 +53,8 @@ unfolding is_blocked
 text_named None h = absurd (cc)
 text_named (Some f) h = refl
 
-amp_text_law : (t : List Entry) (spot : Spot) (q s : List ℕ) (c : ℕ) → is_value spot ≡ false → IsOpen t (is_value spot) q → is_none (reference_behind t false q (c ∷ s)) ≡ keeps_after t spot (ampersand_in_text t q c) s
-unfolding ampersand_in_text reference_behind
+amp_text_law : (t : List Entry) (spot : Spot) (q s : List ℕ) (c : ℕ) → is_value spot ≡ false → IsOpen t (is_value spot) q → is_none (reference_after t false q (c ∷ s)) ≡ keeps_after t spot (ampersand_in_text t q c) s
+unfolding ampersand_in_text reference_after
 amp_text_law t spot q s c v o = by_tests (is_root q && is_hash c) (is_name t (q ++ c ∷ [])) refl
   where
     by_tests : (r n : Bool) → is_name t (q ++ c ∷ []) ≡ n
@@ -99,8 +99,8 @@ ends_name t k q c h b = by_front (is_front t (q ++ c ∷ [])) refl
       | inr p ↦ inr p
     ]
 
-amp_value_law : (t : List Entry) → IsTable t → (spot : Spot) (q s : List ℕ) (c : ℕ) → is_value spot ≡ true → IsOpen t (is_value spot) q → is_none (reference_behind t true q (c ∷ s)) ≡ keeps_after t spot (ampersand_in_value t q c) s
-unfolding ampersand_in_value reference_behind
+amp_value_law : (t : List Entry) → IsTable t → (spot : Spot) (q s : List ℕ) (c : ℕ) → is_value spot ≡ true → IsOpen t (is_value spot) q → is_none (reference_after t true q (c ∷ s)) ≡ keeps_after t spot (ampersand_in_value t q c) s
+unfolding ampersand_in_value reference_after
 amp_value_law t k spot q s c v o = by_tests (is_root q && is_hash c) (is_name t q) (blocks c) (is_name t (q ++ c ∷ [])) (is_semicolon c) refl refl refl refl
   where
     child : List ℕ
@@ -153,7 +153,7 @@ unless_law t spot s false = refl
 hash_law : (t : List Entry) (spot : Spot) (s : List ℕ) (c : ℕ) → is_none (references.hash (c ∷ s)) ≡ keeps_after t spot (step t spot hash c) s
 hash_law t spot s c = by_tests (120 == c || 88 == c) (is_digit c)
   where
-    by_tests : (x d : Bool) → is_none (cond x (references.hexadecimal s) (numeric 2 10 (cond d (c ∷ front is_digit s) []) (cond d (behind is_digit s) (c ∷ s)))) ≡ keeps_after t spot (cond x (Some hash_x) (unless d nothing)) s
+    by_tests : (x d : Bool) → is_none (cond x (references.hexadecimal s) (numeric 2 10 (cond d (c ∷ front is_digit s) []) (cond d (rest_after is_digit s) (c ∷ s)))) ≡ keeps_after t spot (cond x (Some hash_x) (unless d nothing)) s
     by_tests true d = refl
     by_tests false true = refl
     by_tests false false = refl
@@ -161,7 +161,7 @@ hash_law t spot s c = by_tests (120 == c || 88 == c) (is_digit c)
 hash_x_law : (t : List Entry) (spot : Spot) (s : List ℕ) (c : ℕ) → is_none (references.hexadecimal (c ∷ s)) ≡ keeps_after t spot (unless (is_hex c) nothing) s
 hash_x_law t spot s c = by_tests (is_hex c)
   where
-    by_tests : (d : Bool) → is_none (numeric 3 16 (cond d (c ∷ front is_hex s) []) (cond d (behind is_hex s) (c ∷ s))) ≡ keeps_after t spot (unless d nothing) s
+    by_tests : (d : Bool) → is_none (numeric 3 16 (cond d (c ∷ front is_hex s) []) (cond d (rest_after is_hex s) (c ∷ s))) ≡ keeps_after t spot (unless d nothing) s
     by_tests true = refl
     by_tests false = refl
 
@@ -180,7 +180,7 @@ step_law t k spot hash c s h = hash_law t spot s c
 step_law t k spot hash_x c s h = hash_x_law t spot s c
 step_law t k spot (ampersand q) c s h = by_value (is_value spot) refl
   where
-    by_value : (v : Bool) → is_value spot ≡ v → is_none (reference_behind t v q (c ∷ s)) ≡ keeps_after t spot (cond v (ampersand_in_value t q c) (ampersand_in_text t q c)) s
+    by_value : (v : Bool) → is_value spot ≡ v → is_none (reference_after t v q (c ∷ s)) ≡ keeps_after t spot (cond v (ampersand_in_value t q c) (ampersand_in_text t q c)) s
     by_value true v = amp_value_law t k spot q s c v h
     by_value false v = amp_text_law t spot q s c v h
 step_law t k spot (named q) c s h = by_value (is_value spot) refl
@@ -202,7 +202,7 @@ at_end q ps = by_last (last_is 59 q)
 
 -- at the end, too
 pub end_law : (t : List Entry) (spot : Spot) (p : Pending) → Fits t spot p → keeps t spot p [] ≡ may_end t spot p
-unfolding reference_behind
+unfolding reference_after
 end_law t spot nothing h = refl
 end_law t spot less_than h = refl
 end_law t spot decimal h = refl

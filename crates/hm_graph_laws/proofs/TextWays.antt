@@ -6,10 +6,10 @@ use Rattle.hm_base.specs.Forms.{has_mark}
 use Rattle.hm_refs.specs.Names.{Entry}
 use Rattle.hm_refs.specs.Tables.{IsIn, IsTable, first, later}
 use Rattle.hm_spelling_spec.specs.Characters.{AreAllowed, CharacterRules, is_foreign, is_section, is_writable, itself, meant, Piece, reference_to, section, spelled}
-use Rattle.hm_graph_laws.specs.CharacterEdges.{behind_half, character_edges, choice, closes_section, in_section_behind, is_in_section, is_outside, kept_at, section_edges_by, spot_at}
+use Rattle.hm_graph_laws.specs.CharacterEdges.{after_half, character_edges, choice, closes_section, in_section_after, is_in_section, is_outside, kept_at, section_edges_by, spot_at}
 use Rattle.hm_graph_laws.specs.CharacterLaws.{SpellingsHaveWays, keeps_at, stands_at}
 use Rattle.hm_graph_laws.specs.Edges.{Edge, edge, edge_to}
-use Rattle.hm_graph_laws.specs.States.{Where, outside, loose, self_closed, behind_name, behind_unquoted, behind_quoted, in_unquoted, in_double, in_single, in_section, Pending, nothing, half, State, first_state, state}
+use Rattle.hm_graph_laws.specs.States.{Where, outside, loose, self_closed, after_name, after_unquoted, after_quoted, in_unquoted, in_double, in_single, in_section, Pending, nothing, half, State, first_state, state}
 use Rattle.hm_graph_laws.specs.Steps.{Fits, keeps}
 use Rattle.hm_graph_laws.specs.Units.{TextKind, in_value, in_text, in_rcdata, in_foreign, next_of}
 use Rattle.hm_graph_laws.proofs.CharacterWays.{Way, to_units, choice_in, into_section, opening_in}
@@ -62,8 +62,8 @@ module _ (t : List Entry) (table : IsTable t) (rules : CharacterRules) (kind : T
   as_pair c d ps p piece f a r kept more g =
       let e = choice_for_two t table rules (spot_at kind at) c d p piece (spelled ps ++ after) f (subst (λ w. keeps t (spot_at kind at) p w ≡ true) (append_assoc piece (spelled ps) after) kept) a r in
       one_way c (d ∷ meant ps) p piece (spelled ps) (kept_at at (choice piece (half e.left))) (choice_in t rules kind at c (Some d) p (choice piece (half e.left)) placed e.among) (half e.left) refl (omega arith)
-      (one_way d (meant ps) (half e.left) [] (spelled ps) (kept_at at (choice [] (behind_half e.left))) (choice_in t rules kind at d (next_of (meant ps)) (half e.left) (choice [] (behind_half e.left)) placed (first [])) (behind_half e.left) refl (omega arith)
-      (more (behind_half e.left) e.fits g e.kept))
+      (one_way d (meant ps) (half e.left) [] (spelled ps) (kept_at at (choice [] (after_half e.left))) (choice_in t rules kind at d (next_of (meant ps)) (half e.left) (choice [] (after_half e.left)) placed (first [])) (after_half e.left) refl (omega arith)
+      (more (after_half e.left) e.fits g e.kept))
 
   as_reference : (qs : List ℕ) (ps : List Piece) (p : Pending) (piece : List ℕ) → OneOrTwo qs → Fits t (spot_at kind at) p → head_is rules.refers qs ≡ true → Refers t (spot_at kind at) qs piece (spelled ps ++ after)
       → keeps t (spot_at kind at) p ((piece ++ spelled ps) ++ after) ≡ true → AllFound ps → AreAllowed t rules (spot_at kind at) ps after → Found t rules kind at after (qs ++ meant ps) p (length (piece ++ spelled ps))
@@ -74,10 +74,10 @@ module _ (t : List Entry) (table : IsTable t) (rules : CharacterRules) (kind : T
 
   closing_in : (next : Option ℕ) (front : List ℕ) (c : ℕ) (p : Pending) → IsIn (edge_to (front ++ (encode_utf8 c ++ codes "]]>")) first_state) (section_edges_by next front c p)
   closing_in None front c p = first []
-  closing_in (Some d) front c p = later (edge (front ++ encode_utf8 c) in_section (in_section_behind c p)) (edge_to (front ++ (encode_utf8 c ++ codes "]]>")) first_state ∷ []) (first [])
+  closing_in (Some d) front c p = later (edge (front ++ encode_utf8 c) in_section (in_section_after c p)) (edge_to (front ++ (encode_utf8 c ++ codes "]]>")) first_state ∷ []) (first [])
 
-  not_closed : (c : ℕ) (ds : List ℕ) (p : Pending) → has_mark (codes "]]>") (brackets p ++ c ∷ ds) ≡ false → (closes_section c p ≡ false) × (has_mark (codes "]]>") (brackets (in_section_behind c p) ++ ds) ≡ false)
-  not_closed c ds p h = by_tests (closes_section c p) (has_mark (codes "]]>") (brackets (in_section_behind c p) ++ ds)) (sym (mark_step c p ds) ∙ h)
+  not_closed : (c : ℕ) (ds : List ℕ) (p : Pending) → has_mark (codes "]]>") (brackets p ++ c ∷ ds) ≡ false → (closes_section c p ≡ false) × (has_mark (codes "]]>") (brackets (in_section_after c p) ++ ds) ≡ false)
+  not_closed c ds p h = by_tests (closes_section c p) (has_mark (codes "]]>") (brackets (in_section_after c p) ++ ds)) (sym (mark_step c p ds) ∙ h)
     where
       by_tests : (a b : Bool) → (a || b) ≡ false → (a ≡ false) × (b ≡ false)
       by_tests true b k = absurd (cc)
@@ -93,7 +93,7 @@ module _ (t : List Entry) (table : IsTable t) (rules : CharacterRules) (kind : T
     whole = append_assoc front (encode_utf8 c ++ codes "]]>") rest ∙ ap (λ x. front ++ x) (append_assoc (encode_utf8 c) (codes "]]>") rest ∙ ap (λ x. x ++ (codes "]]>" ++ rest)) (sym (append-nil (encode_utf8 c))));
   }
   through front c (d ∷ ds) p others rest to written unmarked w =
-      let q = in_section_behind c p in
+      let q = in_section_after c p in
       let here = not_closed c (d ∷ ds) p unmarked in
       let all = and_parts (is_writable rules.ascii c) (all_pass (is_writable rules.ascii) (d ∷ ds)) written in
       let next = and_parts (is_writable rules.ascii d) (all_pass (is_writable rules.ascii) ds) all.1 in
@@ -113,9 +113,9 @@ module _ (t : List Entry) (table : IsTable t) (rules : CharacterRules) (kind : T
       no_value outside g = cc
       no_value loose g = cc
       no_value self_closed g = cc
-      no_value behind_name g = cc
-      no_value behind_unquoted g = cc
-      no_value behind_quoted g = cc
+      no_value after_name g = cc
+      no_value after_unquoted g = cc
+      no_value after_quoted g = cc
       no_value in_unquoted g = cc
       no_value in_double g = cc
       no_value in_single g = cc

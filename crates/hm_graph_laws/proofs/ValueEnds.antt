@@ -4,7 +4,7 @@ use Rattle.hm_base.specs.Bytes.{is_space}
 use Rattle.hm_base.specs.Forms.{is_blank}
 use Rattle.hm_base.specs.Walks.{Attribute}
 use Rattle.hm_markup_spec.specs.Gaps.{is_gap}
-use Rattle.hm_markup_spec.specs.Tags.{Form, tag_end, unquoted, WritesAttributes}
+use Rattle.hm_markup_spec.specs.Tags.{Quoting, tag_end, unquoted, WritesAttributes}
 use Rattle.hm_markup_spec.proofs.Gaps.{gap_blank}
 use Rattle.hm_refs.specs.Tables.{first, IsIn, later}
 use Rattle.hm_refs.proofs.Bools.{and_left, eq_of}
@@ -60,7 +60,7 @@ end_closes true gap x h = gap_closes gap (tag_end true ++ x) h
 end_closes false gap x h = blank_closes gap (62 ∷ x) (gap_blank false gap h) (record { byte = 62; rest = x; is = refl; among = later 34 _ (later 39 _ (first _)) })
 
 -- and so does the next attribute
-pub attributes_close : (g : Spelling) (touching : Bool) (last : Form) (attributes : List Attribute) (b after : List ℕ) → WritesAttributes (SpellsValue g) touching unquoted last attributes b after → (last ≡ unquoted → Closes after) → Closes (b ++ after)
+pub attributes_close : (g : Spelling) (touching : Bool) (last : Quoting) (attributes : List Attribute) (b after : List ℕ) → WritesAttributes (SpellsValue g) touching unquoted last attributes b after → (last ≡ unquoted → Closes after) → Closes (b ++ after)
 attributes_close g touching last [] b after (e, is) c = subst (λ w. Closes (w ++ after)) (sym is) (c e)
 attributes_close g touching last (a ∷ attributes) b after (form, piece, rest, is, one, more) c =
     let cut : b ++ after ≡ one.gap ++ ((one.name ++ one.value) ++ (rest ++ after)) =

@@ -24,9 +24,9 @@ abbrev pub tag_units : List ℕ → List Attribute → Bool → List Unit
 tag_units n attributes closes = tag_name n ∷ (attribute_units attributes ++ tag_close closes ∷ [])
 
 -- where a tag leads, with and without a '/'
-abbrev pub behind_tag : Bool → State
-behind_tag false = first_state
-behind_tag true = state self_closed nothing
+abbrev pub state_after_tag : Bool → State
+state_after_tag false = first_state
+state_after_tag true = state self_closed nothing
 
 -- the names have no capitals, as in every tag that was read
 abbrev pub AreLow : List Attribute → Type 0
@@ -39,7 +39,7 @@ pub record TagSpelled (g : Spelling) (n : List ℕ) (attributes : List Attribute
   pub inner : List ℕ
   pub is : b ≡ 60 ∷ inner
   pub spells : SpellsStart g n attributes slash b after
-  pub leads : to ≡ behind_tag slash
+  pub leads : to ≡ state_after_tag slash
   pub may : slash ≡ true → closes ≡ true
 
 -- the bytes along the edges of a tag are a spelling of it, whatever follows
@@ -51,7 +51,7 @@ TagsSpell =
 -- edges of the tag with no more bytes than b
 pub record HasTagWay (es : Edges) (n : List ℕ) (attributes : List Attribute) (closes leads : Bool) (from : State) (b : List ℕ) : Type 0 where
   pub bytes : List ℕ
-  pub way : WayTo es (tag_units n attributes closes) from bytes (behind_tag leads)
+  pub way : WayTo es (tag_units n attributes closes) from bytes (state_after_tag leads)
   pub short : length bytes ≤ length b
 
 -- for each spelling of a tag there are edges with no more bytes, without a '/' and, where it may close itself, with it

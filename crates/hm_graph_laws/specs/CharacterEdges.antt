@@ -37,11 +37,11 @@ itself_by spot c (Some q) = choice (encode_utf8 c) (itself_to spot c q) ∷ []
 unfoldable pub as_itself : List Entry → CharacterRules → Spot → ℕ → Pending → List Choice
 as_itself t rules spot c p = if may_stand rules.ascii spot c then itself_by spot c (run t spot (Some p) (encode_utf8 c)) else []
 
-unfoldable pub behind_name : List ℕ → Pending
-behind_name m = if is_closed m then nothing else named m
+unfoldable pub after_name : List ℕ → Pending
+after_name m = if is_closed m then nothing else named m
 
-unfoldable pub behind_pair : List ℕ → Pending
-behind_pair m = half (if is_closed m then None else Some m)
+unfoldable pub after_pair : List ℕ → Pending
+after_pair m = half (if is_closed m then None else Some m)
 
 -- the names that give these code points, in their order
 abbrev pub by_names : (List ℕ → Pending) → List ℕ → List Entry → List Choice
@@ -51,7 +51,7 @@ by_names to points (e ∷ t) = if bytes_eq e.points points then choice e.name (t
 -- then by the names that give it, and after them by those that give it and the next one
 abbrev pub by_pairs : List Entry → ℕ → Option ℕ → List Choice
 by_pairs t c None = []
-by_pairs t c (Some d) = by_names behind_pair (c ∷ d ∷ []) t
+by_pairs t c (Some d) = by_names after_pair (c ∷ d ∷ []) t
 
 -- then by the best number, without and with a ';'
 abbrev pub by_decimal : Option ℕ → List Choice
@@ -66,20 +66,20 @@ by_hexadecimal c =
     else []
 
 abbrev pub by_references : List Entry → ℕ → Option ℕ → List Choice
-by_references t c next = by_names behind_name (c ∷ []) t ++ (by_pairs t c next ++ (by_decimal (best_number c) ++ by_hexadecimal c))
+by_references t c next = by_names after_name (c ∷ []) t ++ (by_pairs t c next ++ (by_decimal (best_number c) ++ by_hexadecimal c))
 
 -- the name that is due its second code point
 abbrev pub half_of : Pending → Option (Option (List ℕ))
 half_of (half left) = Some left
 half_of p = None
 
-abbrev pub behind_half : Option (List ℕ) → Pending
-behind_half None = nothing
-behind_half (Some q) = named q
+abbrev pub after_half : Option (List ℕ) → Pending
+after_half None = nothing
+after_half (Some q) = named q
 
 -- A reference begins with '&', so it is a choice only where that breaks nothing.
 abbrev pub choices_by : Option (Option (List ℕ)) → List Entry → CharacterRules → Spot → ℕ → Option ℕ → Pending → List Choice
-choices_by (Some left) t rules spot c next p = choice [] (behind_half left) ∷ []
+choices_by (Some left) t rules spot c next p = choice [] (after_half left) ∷ []
 choices_by None t rules spot c next p = as_itself t rules spot c p ++ (if is_some (step t spot p 38) && rules.refers c then by_references t c next else [])
 
 -- the ways to write c outside of sections; next is the code point after it in the same text
@@ -89,9 +89,9 @@ choices t rules spot c next p = choices_by (half_of p) t rules spot c next p
 -- ---- Sections
 
 -- what is pending after c in a section
-abbrev pub in_section_behind : ℕ → Pending → Pending
-in_section_behind c nothing = if c == 93 then one_bracket else nothing
-in_section_behind c p = if c == 93 then two_brackets else nothing
+abbrev pub in_section_after : ℕ → Pending → Pending
+in_section_after c nothing = if c == 93 then one_bracket else nothing
+in_section_after c p = if c == 93 then two_brackets else nothing
 
 -- with `]]` pending '>' would end the section
 abbrev pub closes_section : ℕ → Pending → Bool
@@ -101,7 +101,7 @@ closes_section c p = false
 -- `front` opens the section where it isn't open yet
 abbrev pub section_edges_by : Option ℕ → List ℕ → ℕ → Pending → List Edge
 section_edges_by None front c p = edge_to (front ++ (encode_utf8 c ++ codes "]]>")) first_state ∷ []
-section_edges_by (Some d) front c p = edge (front ++ encode_utf8 c) in_section (in_section_behind c p) ∷ edge_to (front ++ (encode_utf8 c ++ codes "]]>")) first_state ∷ []
+section_edges_by (Some d) front c p = edge (front ++ encode_utf8 c) in_section (in_section_after c p) ∷ edge_to (front ++ (encode_utf8 c ++ codes "]]>")) first_state ∷ []
 
 -- c goes on in a section, or ends it
 abbrev pub section_edges : Bool → ℕ → Option ℕ → Pending → List Edge

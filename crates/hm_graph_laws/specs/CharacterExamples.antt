@@ -6,7 +6,7 @@ use Rattle.hm_refs.specs.Examples.{seven}
 use Rattle.hm_refs.specs.Names.{Entry}
 use Rattle.hm_refs.specs.Numbers.{best_number, point_of}
 use Rattle.hm_spelling_spec.specs.Characters.{CharacterRules, is_writable, may_stand}
-use Rattle.hm_graph_laws.specs.CharacterEdges.{as_itself, behind_name, behind_pair, character_edges}
+use Rattle.hm_graph_laws.specs.CharacterEdges.{as_itself, after_name, after_pair, character_edges}
 use Rattle.hm_graph_laws.specs.Edges.{edge}
 use Rattle.hm_graph_laws.specs.States.{first_state, state, outside, in_section, nothing, less_than, decimal, ampersand, named, half, one_bracket, two_brackets}
 use Rattle.hm_graph_laws.specs.Units.{in_foreign, in_text}
@@ -25,12 +25,12 @@ of_less_than = refl
 
 pub of_ampersand : character_edges seven usual in_text 38 (Some 120) first_state
     ≡ edge (codes "&") outside (ampersand (codes "&")) ∷ edge (codes "&amp") outside (named (codes "&amp")) ∷ edge (codes "&amp;") outside nothing ∷ edge (codes "&#38") outside decimal ∷ edge (codes "&#38;") outside nothing ∷ []
-unfolding as_itself may_stand is_writable best_number point_of digits encode behind_name
+unfolding as_itself may_stand is_writable best_number point_of digits encode after_name
 of_ampersand = refl
 
 -- a name that gives x and the code point after it, which is due then
 pub of_pair : character_edges two usual in_text 120 (Some 0x338) first_state ≡ edge (codes "x") outside nothing ∷ edge (codes "&ab;") outside (half None) ∷ edge (codes "&#120") outside decimal ∷ edge (codes "&#120;") outside nothing ∷ []
-unfolding as_itself may_stand is_writable best_number point_of digits encode behind_pair
+unfolding as_itself may_stand is_writable best_number point_of digits encode after_pair
 of_pair = refl
 
 pub of_due : character_edges two usual in_text 0x338 None (state outside (half None)) ≡ edge [] outside nothing ∷ []

@@ -18,8 +18,8 @@ covers form other v = list_all (λ c. stands form c || not (stands other c)) v
 -- ---- Characters whose references are dear
 
 -- LF, FF, SPACE, quotes, '<', '=', '>' and the grave accent: the best number of each has four bytes or more. (TAB has `&#9`.)
-abbrev pub may_be_dear : ℕ → Bool
-may_be_dear c = c == 10 || (c == 12 || (c == 32 || (c == 34 || (c == 39 || (c == 60 || (c == 61 || (c == 62 || c == 96)))))))
+abbrev pub may_be_costly : ℕ → Bool
+may_be_costly c = c == 10 || (c == 12 || (c == 32 || (c == 34 || (c == 39 || (c == 60 || (c == 61 || (c == 62 || c == 96)))))))
 
 abbrev pub is_second : ℕ → List ℕ → Bool
 is_second c (a ∷ b ∷ []) = b == c
@@ -44,13 +44,13 @@ may_leave_open t (Some c) = list_any (leaves_open c) t
 
 -- Whether each reference to c has at least three bytes more than c itself, where c stands between these two, and c as itself
 -- breaks nothing that the '&' of a reference wouldn't break: '=' would end no name without ';'.
-abbrev pub is_dear : List Entry → Option ℕ → ℕ → Option ℕ → Bool
-is_dear t previous c next = may_be_dear c && (not (list_any (makes_cheap c next) t) && not (c == 61 && may_leave_open t previous))
+abbrev pub is_costly : List Entry → Option ℕ → ℕ → Option ℕ → Bool
+is_costly t previous c next = may_be_costly c && (not (list_any (makes_cheap c next) t) && not (c == 61 && may_leave_open t previous))
 
 -- whether a dear character of the value may stand as itself in this form, and not in the other
 abbrev pub gains_after : List Entry → Where → Where → Option ℕ → List ℕ → Bool
 gains_after t form other previous [] = false
-gains_after t form other previous (c ∷ v) = (stands form c && (not (stands other c) && is_dear t previous c (next_of v))) || gains_after t form other (Some c) v
+gains_after t form other previous (c ∷ v) = (stands form c && (not (stands other c) && is_costly t previous c (next_of v))) || gains_after t form other (Some c) v
 
 abbrev pub gains : List Entry → Where → Where → List ℕ → Bool
 gains t form other v = gains_after t form other None v
@@ -63,5 +63,5 @@ abbrev pub added : Where → ℕ
 added in_unquoted = 1
 added at = 0
 
-abbrev pub spared : Bool → ℕ
-spared b = if b then 3 else 0
+abbrev pub saved : Bool → ℕ
+saved b = if b then 3 else 0

@@ -21,8 +21,8 @@ with_layer es ends unit [] = ends
 with_layer es ends unit (s ∷ states) = with_layer es (with_ends ends (es unit s)) unit states
 
 -- the states of the next layer, in order of first appearance
-abbrev pub states_behind : Edges → Unit → List State → List State
-states_behind es unit states = with_layer es [] unit states
+abbrev pub states_after : Edges → Unit → List State → List State
+states_after es unit states = with_layer es [] unit states
 
 abbrev pub first_layer : List State
 first_layer = first_state ∷ []
@@ -30,7 +30,7 @@ first_layer = first_state ∷ []
 -- the states of each layer, from one on whose states these are
 abbrev pub layers : Edges → List Unit → List State → List (List State)
 layers es [] states = states ∷ []
-layers es (unit ∷ units) states = states ∷ layers es units (states_behind es unit states)
+layers es (unit ∷ units) states = states ∷ layers es units (states_after es unit states)
 
 -- ---- Which layers are written
 
@@ -56,8 +56,8 @@ single_follows es unit states = is_single states && list_all (λ s. is_single (e
 abbrev pub written_from : Edges → LayerTest → ℕ → List Unit → List State → List ℕ
 written_from es follows k [] states = k ∷ []
 written_from es follows k (unit ∷ units) states =
-    if not (k == 0) && follows unit states then written_from es follows (suc k) units (states_behind es unit states)
-    else k ∷ written_from es follows (suc k) units (states_behind es unit states)
+    if not (k == 0) && follows unit states then written_from es follows (suc k) units (states_after es unit states)
+    else k ∷ written_from es follows (suc k) units (states_after es unit states)
 
 -- the numbers of the written layers
 abbrev pub written : Edges → LayerTest → List Unit → List ℕ

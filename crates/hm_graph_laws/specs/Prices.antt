@@ -1,7 +1,7 @@
 -- Prices (potentials: the cost to go) for the states of the layers: the least ones, those that show a bound by themselves,
 -- and those that are written.
 use Rattle.std.specs.Prelude.{◌≡◌, ◌≤◌, ℕ, suc, ◌+◌, Bool, not, ◌&&◌, ◌==◌, List, [], ◌∷◌, length, map, Option, Some, None, if◌then◌else◌}
-use Rattle.hm_graph_laws.specs.Layers.{LayerTest, states_behind, first_layer}
+use Rattle.hm_graph_laws.specs.Layers.{LayerTest, states_after, first_layer}
 use Rattle.hm_graph_laws.specs.Ways.{Edges, best, least}
 use Rattle.hm_graph_laws.specs.Edges.{Edge, edge_length}
 use Rattle.hm_graph_laws.specs.States.{State, same_state}
@@ -21,7 +21,7 @@ price_at (t ∷ states) (q ∷ prices) s = if same_state t s then q else price_a
 -- the least prices of all layers from one on, that layer's states being these
 abbrev pub least_prices : Edges → List Unit → List State → List Row
 least_prices es [] states = map (least es []) states ∷ []
-least_prices es (unit ∷ units) states = map (least es (unit ∷ units)) states ∷ least_prices es units (states_behind es unit states)
+least_prices es (unit ∷ units) states = map (least es (unit ∷ units)) states ∷ least_prices es units (states_after es unit states)
 
 -- ---- Prices that show a bound by themselves
 
@@ -33,15 +33,15 @@ KeepsEdge None n (Some b) = ⊥
 KeepsEdge (Some a) n (Some b) = a ≤ n + b
 
 abbrev pub KeepsEdges : Option ℕ → (State → Option ℕ) → List Edge → Type 0
-KeepsEdges price behind [] = Prim.Unit {0}
-KeepsEdges price behind (e ∷ es) = KeepsEdge price (edge_length e) (behind e.to) × KeepsEdges price behind es
+KeepsEdges price after [] = Prim.Unit {0}
+KeepsEdges price after (e ∷ es) = KeepsEdge price (edge_length e) (after e.to) × KeepsEdges price after es
 
 -- a price for each state, and each price keeps the rule at the edges of the unit
 abbrev pub KeepsLayer : Edges → Unit → (State → Option ℕ) → List State → Row → Type 0
-KeepsLayer es unit behind [] [] = Prim.Unit {0}
-KeepsLayer es unit behind [] (q ∷ row) = ⊥
-KeepsLayer es unit behind (s ∷ states) [] = ⊥
-KeepsLayer es unit behind (s ∷ states) (q ∷ row) = KeepsEdges q behind (es unit s) × KeepsLayer es unit behind states row
+KeepsLayer es unit after [] [] = Prim.Unit {0}
+KeepsLayer es unit after [] (q ∷ row) = ⊥
+KeepsLayer es unit after (s ∷ states) [] = ⊥
+KeepsLayer es unit after (s ∷ states) (q ∷ row) = KeepsEdges q after (es unit s) × KeepsLayer es unit after states row
 
 -- a price for each state, and each is 0
 abbrev pub AreZero : List State → Row → Type 0
@@ -57,7 +57,7 @@ FeasibleFrom es [] states (row ∷ []) = AreZero states row
 FeasibleFrom es [] states (row ∷ next ∷ rows) = ⊥
 FeasibleFrom es (unit ∷ units) states (row ∷ []) = ⊥
 FeasibleFrom es (unit ∷ units) states (row ∷ next ∷ rows) =
-    KeepsLayer es unit (price_at (states_behind es unit states) next) states row × FeasibleFrom es units (states_behind es unit states) (next ∷ rows)
+    KeepsLayer es unit (price_at (states_after es unit states) next) states row × FeasibleFrom es units (states_after es unit states) (next ∷ rows)
 
 abbrev pub Feasible : Edges → List Unit → List Row → Type 0
 Feasible es units rows = FeasibleFrom es units first_layer rows
@@ -75,15 +75,15 @@ abbrev pub written_rows : Edges → LayerTest → ℕ → List Unit → List Sta
 written_rows es follows k units states [] = []
 written_rows es follows k [] states (row ∷ rows) = row ∷ []
 written_rows es follows k (unit ∷ units) states (row ∷ rows) =
-    if not (k == 0) && follows unit states then written_rows es follows (suc k) units (states_behind es unit states) rows
-    else row ∷ written_rows es follows (suc k) units (states_behind es unit states) rows
+    if not (k == 0) && follows unit states then written_rows es follows (suc k) units (states_after es unit states) rows
+    else row ∷ written_rows es follows (suc k) units (states_after es unit states) rows
 
 abbrev pub has_width : List State → Row → Bool
 has_width states row = length row == length states
 
 -- the prices of a layer that is left out: over the only edge of each state
 abbrev pub row_over : Edges → Unit → List State → (State → Option ℕ) → Row
-row_over es unit states behind = map (λ s. best behind (es unit s)) states
+row_over es unit states after = map (λ s. best after (es unit s)) states
 
 abbrev pub with_row : Row → Option (List Row) → Option (List Row)
 with_row row None = None
@@ -93,7 +93,7 @@ with_row row (Some rows) = Some (row ∷ rows)
 abbrev pub followed_by : Edges → Unit → List State → Option (List Row) → Option (List Row)
 followed_by es unit states None = None
 followed_by es unit states (Some []) = None
-followed_by es unit states (Some (next ∷ rows)) = Some (row_over es unit states (price_at (states_behind es unit states) next) ∷ next ∷ rows)
+followed_by es unit states (Some (next ∷ rows)) = Some (row_over es unit states (price_at (states_after es unit states) next) ∷ next ∷ rows)
 
 -- the rows of all layers from one on, by those that are written; None where these are too few or too many or of another
 -- width
@@ -103,8 +103,8 @@ full_from es follows k [] states (row ∷ []) = if has_width states row then Som
 full_from es follows k [] states (row ∷ more ∷ rows) = None
 full_from es follows k (unit ∷ units) states [] = None
 full_from es follows k (unit ∷ units) states (row ∷ rows) =
-    if not (k == 0) && follows unit states then followed_by es unit states (full_from es follows (suc k) units (states_behind es unit states) (row ∷ rows))
-    else if has_width states row then with_row row (full_from es follows (suc k) units (states_behind es unit states) rows)
+    if not (k == 0) && follows unit states then followed_by es unit states (full_from es follows (suc k) units (states_after es unit states) (row ∷ rows))
+    else if has_width states row then with_row row (full_from es follows (suc k) units (states_after es unit states) rows)
     else None
 
 -- the prices of all layers that written ones stand for

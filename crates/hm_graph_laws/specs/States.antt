@@ -6,9 +6,9 @@ pub data Where : Type 0 where
   outside : Where  -- outside of tags
   loose : Where  -- outside of tags, after an end tag of a table's section or of colgroup that was left out
   self_closed : Where  -- after a start tag of SVG with a '/', which stands for the end tag as well
-  behind_name : Where  -- in a tag, after its name or an attribute without value
-  behind_unquoted : Where  -- in a tag, after a value without quotes
-  behind_quoted : Where  -- in a tag, after a value in quotes
+  after_name : Where  -- in a tag, after its name or an attribute without value
+  after_unquoted : Where  -- in a tag, after a value without quotes
+  after_quoted : Where  -- in a tag, after a value in quotes
   in_unquoted : Where  -- in a value without quotes
   in_double : Where  -- in a value in double quotes
   in_single : Where  -- in a value in single quotes
@@ -52,9 +52,9 @@ abbrev pub same_where : Where → Where → Bool
 same_where outside outside = true
 same_where loose loose = true
 same_where self_closed self_closed = true
-same_where behind_name behind_name = true
-same_where behind_unquoted behind_unquoted = true
-same_where behind_quoted behind_quoted = true
+same_where after_name after_name = true
+same_where after_unquoted after_unquoted = true
+same_where after_quoted after_quoted = true
 same_where in_unquoted in_unquoted = true
 same_where in_double in_double = true
 same_where in_single in_single = true

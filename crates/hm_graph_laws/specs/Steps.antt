@@ -85,9 +85,9 @@ run t spot (Some p) (c ∷ s) = run t spot (step t spot p c) s
 -- ---- What it means
 
 -- the reference at the start of q ++ s, where q was written with its '&' as itself
-unfoldable pub reference_behind : List Entry → Bool → List ℕ → List ℕ → Option Reference
-reference_behind t value q [] = references.named value (found t q [])
-reference_behind t value q (c ∷ s) = if is_root q && is_hash c then references.hash s else references.named value (found t q (c ∷ s))
+unfoldable pub reference_after : List Entry → Bool → List ℕ → List ℕ → Option Reference
+reference_after t value q [] = references.named value (found t q [])
+reference_after t value q (c ∷ s) = if is_root q && is_hash c then references.hash s else references.named value (found t q (c ∷ s))
 
 -- whether, with the bytes that follow, what was written still means what it was meant to
 abbrev pub keeps : List Entry → Spot → Pending → List ℕ → Bool
@@ -97,7 +97,7 @@ keeps t spot decimal s = not (head_is goes_on_decimal s)
 keeps t spot hexadecimal s = not (head_is goes_on_hexadecimal s)
 keeps t spot hash s = is_none (references.hash s)
 keeps t spot hash_x s = is_none (references.hexadecimal s)
-keeps t spot (ampersand q) s = is_none (reference_behind t (is_value spot) q s)
+keeps t spot (ampersand q) s = is_none (reference_after t (is_value spot) q s)
 keeps t spot (named q) s = not (is_value spot && head_is blocks s) && is_none (found_longer t q s)
 keeps t spot (half left) s = false
 keeps t spot one_bracket s = false

@@ -32,12 +32,12 @@ is_self_closed self_closed = true
 is_self_closed at = false
 
 -- where an end tag that is left out leads
-abbrev pub behind_left_out : Bool → State → State
-behind_left_out true s = state loose nothing
-behind_left_out false s = s
+abbrev pub after_left_out : Bool → State → State
+after_left_out true s = state loose nothing
+after_left_out false s = s
 
 -- An end tag: nothing, after a start tag that closed itself; else nothing, where it may be left out, and the tag.
 abbrev pub end_edges : List ℕ → Bool → Bool → State → List Edge
 end_edges n omits loosens s =
     if is_self_closed s.at then edge_to [] first_state ∷ []
-    else (if omits then edge_to [] (behind_left_out loosens s) ∷ [] else []) ++ edge_to (end_bytes n) first_state ∷ []
+    else (if omits then edge_to [] (after_left_out loosens s) ∷ [] else []) ++ edge_to (end_bytes n) first_state ∷ []

@@ -3,7 +3,7 @@ use Rattle.std.specs.Prelude.{ℕ, Bool, true, false, not, ◌&&◌, ◌||◌, L
 use Rattle.hm_base.specs.Walks.{Attribute, Event, doctype, start, text, comment, end, Element, begins_end}
 use Rattle.hm_base.specs.declared.plain.SpellRules.{SpellRules}
 use Rattle.hm_elements.specs.Names.{colgroup}
-use Rattle.hm_elements.specs.Omission.{bars_start}
+use Rattle.hm_elements.specs.Omission.{start_tag_required_after}
 use Rattle.hm_elements.specs.Paths.{current, is_in_svg, outer}
 use Rattle.hm_elements.specs.Tables.{is_void, is_rcdata, is_section}
 use Rattle.hm_spelling_spec.specs.Omission.{start_falls, may_omit_end}
@@ -53,7 +53,7 @@ Previous = Option Event
 
 -- After an end that bars it and whose tag was left out, the start tag isn't left out as well.
 abbrev pub is_firm : Previous → List ℕ → Bool
-is_firm (Some (end m foreign)) n = not foreign && bars_start m n
+is_firm (Some (end m foreign)) n = not foreign && start_tag_required_after m n
 is_firm previous n = false
 
 -- an element of SVG that ends at once
@@ -77,13 +77,13 @@ end_units r n foreign path w = if not foreign && is_void n then [] else end_tag 
 abbrev pub kind_of : List Element → TextKind
 kind_of path = if is_in_svg path then in_foreign else if is_rcdata (current path) then in_rcdata else in_text
 
-abbrev pub is_behind_start : Previous → Bool
-is_behind_start (Some (start n foreign attributes)) = true
-is_behind_start previous = false
+abbrev pub is_after_start : Previous → Bool
+is_after_start (Some (start n foreign attributes)) = true
+is_after_start previous = false
 
 -- the line feed that isn't read, where one is due
 abbrev pub line_feed_units : Previous → List Element → List ℕ → List Unit
-line_feed_units previous path cs = if wants_line_feed (if is_behind_start previous then opening else other) path cs then fixed (10 ∷ []) ∷ [] else []
+line_feed_units previous path cs = if wants_line_feed (if is_after_start previous then opening else other) path cs then fixed (10 ∷ []) ∷ [] else []
 
 abbrev pub text_units : Previous → List Element → List ℕ → Bool → List Unit
 text_units previous path s true = fixed s ∷ []

@@ -29,8 +29,8 @@ over n price = option_map (λ q. n + q) price
 
 -- the least price over these edges, by the prices of the states that they lead to
 abbrev pub best : (State → Option ℕ) → List Edge → Option ℕ
-best behind [] = None
-best behind (e ∷ es) = lesser (over (edge_length e) (behind e.to)) (best behind es)
+best after [] = None
+best after (e ∷ es) = lesser (over (edge_length e) (after e.to)) (best after es)
 
 -- the least number of bytes of a way from a state to the end, closed where there is none
 abbrev pub least : Edges → List Unit → State → Option ℕ
@@ -46,8 +46,8 @@ same_price a b = false
 
 -- the first edge over which a price comes
 abbrev pub first_edge : (State → Option ℕ) → Option ℕ → List Edge → Option Edge
-first_edge behind price [] = None
-first_edge behind price (e ∷ es) = if same_price (over (edge_length e) (behind e.to)) price then Some e else first_edge behind price es
+first_edge after price [] = None
+first_edge after price (e ∷ es) = if same_price (over (edge_length e) (after e.to)) price then Some e else first_edge after price es
 
 abbrev pub along : Option Edge → (State → List ℕ) → List ℕ
 along None more = []

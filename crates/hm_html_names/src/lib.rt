@@ -22,12 +22,12 @@ mod places;
 mod points;
 mod prefixes;
 
-use hm_base::Memory;
+use hm_base::OutOfMemory;
 use hm_refs::{ReadyIndex, ReadyNames, ReadyNodes, Table};
 use std::alloc::Global;
 
 /// The table of the standard's 2,231 names (#named-character-references). No file is read.
-pub fn html_table(alloc: Global) -> Result<Table, Memory>
+pub fn html_table(alloc: Global) -> Result<Table, OutOfMemory>
     ensures { IfOk result (λ table. table.entries ≡ html_entries) }
 {
     Table::ready(alloc, ready_names(), ready_nodes(), ready_index())

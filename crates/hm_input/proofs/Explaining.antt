@@ -14,7 +14,7 @@ use Rattle.hm_base.specs.declared.rules.Refused.{Refused}
 use Rattle.hm_base.specs.declared.rules.Refused.TheVariants as refused
 use Rattle.hm_base.specs.declared.rules.Rule.{Rule}
 use Rattle.hm_base.specs.declared.rules.Rule.TheVariants.{TooLong}
-use Rattle.hm_load.specs.Pages.{IsRefusedAs}
+use Rattle.hm_page_loading.specs.Pages.{IsRefusedAs}
 use Rattle.hm_fragment.specs.Trees.{Outcome, built, refused_by, page_tree, tree_of_source}
 use Rattle.hm_options.specs.Rewrites.{rewrite}
 use Rattle.hm_refs.specs.Names.{Entry}
@@ -37,11 +37,11 @@ built_text t page text w sound is e = parsed_text t page text (built w) sound is
 
 pub refused_text : (t : List Entry) (page : List ℕ) (text : Source) (r : Refused) → HasText PAGE_LIMIT page → text ≡ source_of page → IsRefusedAs (tree_of_source t text) r → IsRefusedAs (page_outcome t page) r
 refused_text t page text (refused.Page rule at) sound is e = parsed_text t page text (refused_by rule at) sound is e
-refused_text t page text refused.Memory sound is e = tt
+refused_text t page text refused.OutOfMemory sound is e = tt
 
 pub faulty_bytes : (t : List Entry) (page : List ℕ) (r : Refused) → IsRefusalOf r PAGE_LIMIT page → IsRefusedAs (page_outcome t page) r
 faulty_bytes t page (refused.Page rule at) h = no_text_in page (refused.Page rule at) h t
-faulty_bytes t page refused.Memory h = tt
+faulty_bytes t page refused.OutOfMemory h = tt
 
 -- ---- what there is of the file
 

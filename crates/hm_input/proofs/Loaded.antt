@@ -25,9 +25,9 @@ use Rattle.hm_refs.specs.Names.{Entry}
 use Rattle.hm_refs.specs.declared.fault.TableFault.{TableFault}
 use Rattle.hm_refs.specs.declared.fault.TableFault.TheVariants.{TooLong}
 use Rattle.hm_fragment.specs.Trees.{Outcome, built, refused_by, page_tree, tree_of_source}
-use Rattle.hm_load.specs.Pages.{IsPageTree, IsRefusedAs, NoPageTree, page_outcome_within}
-use Rattle.hm_load.specs.declared.fault.PageFault.{PageFault}
-use Rattle.hm_load.specs.declared.fault.PageFault.TheVariants as page_faults
+use Rattle.hm_page_loading.specs.Pages.{IsPageTree, IsRefusedAs, NoPageTree, page_outcome_within}
+use Rattle.hm_page_loading.specs.declared.fault.PageLoadFault.{PageLoadFault}
+use Rattle.hm_page_loading.specs.declared.fault.PageLoadFault.TheVariants as page_faults
 use Rattle.hm_fragment.proofs.Fragments.{with_front}
 use Rattle.hm_fragment.specs.Fragments.{fragment_tree}
 use Rattle.hm_fragment.specs.Frames.{front, unframed}
@@ -42,8 +42,8 @@ use Rattle.hm_words.specs.Words.{are_apart, fragment_at, is_table_word, json_at,
 use Rattle.hm_input.specs.Inputs.{Input, IsInput, tree, bad_table, bad_page, bad_json, file_with_table, fragment_input, fragment_outcome, is_html, is_none, json_input, names_of_table, page_input, table_names, page_outcome, rewritten_input, input_from, walk_input}
 use Rattle.hm_input.specs.Loads.{IsFragmentOf, IsLoaded, IsRefusedFragment, IsRefusedJson, IsTableOf, IsTextIn, IsWalkOf, NoFragment, NoFragmentIn, NoInput, NoInputWhere, NoPage, NoTable, NoTextIn, NoWalk}
 use Rattle.hm_input.specs.Reasons.{page_unread, refused_as}
-use Rattle.hm_input.specs.declared.unread.Unread.{Unread}
-use Rattle.hm_input.specs.declared.unread.Unread.TheVariants as reasons
+use Rattle.hm_input.specs.declared.unread.InputFault.{InputFault}
+use Rattle.hm_input.specs.declared.unread.InputFault.TheVariants as reasons
 
 -- ---- a table
 
@@ -142,7 +142,7 @@ no_text_in page (refused.Page rule at) h = λ t. by_length t (nat_lt PAGE_LIMIT 
         let same : refusal_at rules.TooLong PAGE_LIMIT ≡ refusal_at rule at = cc in
         long_page t page (long_by_test PAGE_LIMIT (length page) e) ∙ ap (λ (x : Refusal). refused_by x.rule x.at) same
     by_length t false e f = faulty_page t page (refusal_at rule at) e f
-no_text_in page refused.Memory h = tt
+no_text_in page refused.OutOfMemory h = tt
 
 -- what is found of the prefix that is loaded is found of the page
 pub page_front : (t : List Entry) (content : List ℕ) → page_outcome t (take (PAGE_LIMIT + 1) content) ≡ page_outcome t content
@@ -218,12 +218,12 @@ seen_fault : (told : Option FileMap) (reads : List Entry → List ℕ → Input)
 seen_fault told reads table name fault apart a = seen_file told reads table name a.content (file_of told name) (bad_table fault) apart a.there (λ i. refl) (ap (λ x. input_from reads x (file_of told name)) a.is)
 
 -- there is no table
-seen_no_table : (told : Option FileMap) (reads : List Entry → List ℕ → Input) (table name : List ℕ) (unread : Unread) → are_apart table name ≡ true → NoTable told table unread → NoInputWhere (λ input. Sees told (λ seen. file_with_table reads table name seen ≡ input)) unread
+seen_no_table : (told : Option FileMap) (reads : List Entry → List ℕ → Input) (table name : List ℕ) (unread : InputFault) → are_apart table name ≡ true → NoTable told table unread → NoInputWhere (λ input. Sees told (λ seen. file_with_table reads table name seen ≡ input)) unread
 seen_no_table told reads table name (reasons.Table fault) apart n = seen_fault told reads table name fault apart n
 seen_no_table told reads table name (reasons.Page rule at) apart n = absurd n
 seen_no_table told reads table name (reasons.Json fault) apart n = absurd n
 seen_no_table told reads table name reasons.Store apart n = tt
-seen_no_table told reads table name reasons.Memory apart n = tt
+seen_no_table told reads table name reasons.OutOfMemory apart n = tt
 
 -- ---- a page with its table
 
@@ -235,21 +235,21 @@ pub input_of_page : (told : Option FileMap) (table page : List ℕ) (o : TreeOpt
 input_of_page told table page o t w n v apart a b is = seen_content told (page_input o) table page t b.page (tree n t v) apart a b.there
     (ap (rewritten_input o t (length b.page)) (page_is t b.page ∙ b.reads) ∙ ap₂ (λ m x. tree m t x) (sym b.all) (sym is))
 
-pub no_table : (told : Option FileMap) (table page : List ℕ) (o : TreeOptions) (unread : Unread) → are_apart table page ≡ true → NoTable told table unread → NoInput told (page_at table page) o unread
+pub no_table : (told : Option FileMap) (table page : List ℕ) (o : TreeOptions) (unread : InputFault) → are_apart table page ≡ true → NoTable told table unread → NoInput told (page_at table page) o unread
 no_table told table page o unread apart n = seen_no_table told (page_input o) table page unread apart n
 
-pub no_page : (told : Option FileMap) (table page : List ℕ) (o : TreeOptions) (t : List Entry) (unread : Unread) → are_apart table page ≡ true → IsTableOf told table (Ok t) → NoPage told page t unread → NoInput told (page_at table page) o unread
+pub no_page : (told : Option FileMap) (table page : List ℕ) (o : TreeOptions) (t : List Entry) (unread : InputFault) → are_apart table page ≡ true → IsTableOf told table (Ok t) → NoPage told page t unread → NoInput told (page_at table page) o unread
 no_page told table page o t (reasons.Table fault) apart a n = absurd n
 no_page told table page o t (reasons.Page rule at) apart a n = seen_content told (page_input o) table page t n.page (bad_page rule at) apart a n.there (ap (rewritten_input o t (length n.page)) (page_is t n.page ∙ n.refused))
 no_page told table page o t (reasons.Json fault) apart a n = absurd n
 no_page told table page o t reasons.Store apart a n = tt
-no_page told table page o t reasons.Memory apart a n = tt
+no_page told table page o t reasons.OutOfMemory apart a n = tt
 
 -- a refusal of a page is given on
-pub no_page_of : (told : Option FileMap) (name : List ℕ) (t : List Entry) (fault : PageFault) → NoPageTree told name t fault → NoPage told name t (page_unread fault)
+pub no_page_of : (told : Option FileMap) (name : List ℕ) (t : List Entry) (fault : PageLoadFault) → NoPageTree told name t fault → NoPage told name t (page_unread fault)
 no_page_of told name t (page_faults.Page rule at) n = n
 no_page_of told name t page_faults.Store n = tt
-no_page_of told name t page_faults.Memory n = tt
+no_page_of told name t page_faults.OutOfMemory n = tt
 
 -- what is loaded of a file
 none_found : (told : Option (List ℕ)) (bytes : List ℕ) → IsSome {T = List ℕ} None → told ≡ Some bytes
@@ -282,15 +282,15 @@ pub input_of_fragment : (told : Option FileMap) (table page : List ℕ) (o : Tre
 input_of_fragment told table page o t w n v apart a b is = seen_content told (fragment_input o) table page t b.fragment (tree n t v) apart a b.there
     (ap (rewritten_input o t (length b.fragment)) b.reads ∙ ap₂ (λ m x. tree m t x) (sym b.all) (sym is))
 
-pub no_fragment_table : (told : Option FileMap) (table page : List ℕ) (o : TreeOptions) (unread : Unread) → are_apart table page ≡ true → NoTable told table unread → NoInput told (fragment_at table page) o unread
+pub no_fragment_table : (told : Option FileMap) (table page : List ℕ) (o : TreeOptions) (unread : InputFault) → are_apart table page ≡ true → NoTable told table unread → NoInput told (fragment_at table page) o unread
 no_fragment_table told table page o unread apart n = seen_no_table told (fragment_input o) table page unread apart n
 
-pub no_fragment : (told : Option FileMap) (table page : List ℕ) (o : TreeOptions) (t : List Entry) (unread : Unread) → are_apart table page ≡ true → IsTableOf told table (Ok t) → NoFragment told page t unread → NoInput told (fragment_at table page) o unread
+pub no_fragment : (told : Option FileMap) (table page : List ℕ) (o : TreeOptions) (t : List Entry) (unread : InputFault) → are_apart table page ≡ true → IsTableOf told table (Ok t) → NoFragment told page t unread → NoInput told (fragment_at table page) o unread
 no_fragment told table page o t (reasons.Table fault) apart a n = absurd n
 no_fragment told table page o t (reasons.Page rule at) apart a n = seen_content told (fragment_input o) table page t n.fragment (bad_page rule at) apart a n.there (ap (rewritten_input o t (length n.fragment)) n.refused)
 no_fragment told table page o t (reasons.Json fault) apart a n = absurd n
 no_fragment told table page o t reasons.Store apart a n = tt
-no_fragment told table page o t reasons.Memory apart a n = tt
+no_fragment told table page o t reasons.OutOfMemory apart a n = tt
 
 long_fragment : (t : List Entry) (content : List ℕ) → PAGE_LIMIT < length content → fragment_outcome t content ≡ refused_by rules.TooLong PAGE_LIMIT
 unfolding fragment_outcome
@@ -321,19 +321,19 @@ fragment_of_bytes told name t fragment w n l short all reads =
     let k = whole_content told name fragment l short in
     record { fragment = l.content; there = l.there; reads = short_fragment t l.content k.1 ∙ ap (fragment_tree t) (sym k.0) ∙ reads; all = all ∙ ap length k.0 }
 
-pub no_fragment_of_bytes : (told : Option FileMap) (name : List ℕ) (t : List Entry) (fragment : List ℕ) (unread : Unread) → IsLoaded told name PAGE_LIMIT fragment → length fragment ≤ PAGE_LIMIT → NoFragmentIn t fragment unread → NoFragment told name t unread
+pub no_fragment_of_bytes : (told : Option FileMap) (name : List ℕ) (t : List Entry) (fragment : List ℕ) (unread : InputFault) → IsLoaded told name PAGE_LIMIT fragment → length fragment ≤ PAGE_LIMIT → NoFragmentIn t fragment unread → NoFragment told name t unread
 no_fragment_of_bytes told name t fragment (reasons.Table fault) l short n = absurd n
 no_fragment_of_bytes told name t fragment (reasons.Page rule at) l short n =
     let k = whole_content told name fragment l short in
     record { fragment = l.content; there = l.there; refused = short_fragment t l.content k.1 ∙ ap (fragment_tree t) (sym k.0) ∙ n }
 no_fragment_of_bytes told name t fragment (reasons.Json fault) l short n = absurd n
 no_fragment_of_bytes told name t fragment reasons.Store l short n = absurd n
-no_fragment_of_bytes told name t fragment reasons.Memory l short n = tt
+no_fragment_of_bytes told name t fragment reasons.OutOfMemory l short n = tt
 
 -- a refusal of a fragment is given on
 pub no_fragment_in : (t : List Entry) (fragment : List ℕ) (r : Refused) → IsRefusedAs (fragment_tree t fragment) r → NoFragmentIn t fragment (refused_as r)
 no_fragment_in t fragment (refused.Page rule at) h = h
-no_fragment_in t fragment refused.Memory h = tt
+no_fragment_in t fragment refused.OutOfMemory h = tt
 
 -- ---- JSON with a table
 
@@ -341,15 +341,15 @@ pub input_of_walk : (told : Option FileMap) (table page : List ℕ) (o : TreeOpt
 input_of_walk told table page o t w n v apart a b is = seen_content told (json_input o) table page t b.json (tree n t v) apart a b.there
     (ap (walk_input o t (length b.json)) b.reads ∙ ap₂ (λ m x. tree m t x) (sym b.all) (sym is))
 
-pub no_json_table : (told : Option FileMap) (table page : List ℕ) (o : TreeOptions) (unread : Unread) → are_apart table page ≡ true → NoTable told table unread → NoInput told (json_at table page) o unread
+pub no_json_table : (told : Option FileMap) (table page : List ℕ) (o : TreeOptions) (unread : InputFault) → are_apart table page ≡ true → NoTable told table unread → NoInput told (json_at table page) o unread
 no_json_table told table page o unread apart n = seen_no_table told (json_input o) table page unread apart n
 
-pub no_walk : (told : Option FileMap) (table page : List ℕ) (o : TreeOptions) (t : List Entry) (unread : Unread) → are_apart table page ≡ true → IsTableOf told table (Ok t) → NoWalk told page unread → NoInput told (json_at table page) o unread
+pub no_walk : (told : Option FileMap) (table page : List ℕ) (o : TreeOptions) (t : List Entry) (unread : InputFault) → are_apart table page ≡ true → IsTableOf told table (Ok t) → NoWalk told page unread → NoInput told (json_at table page) o unread
 no_walk told table page o t (reasons.Table fault) apart a n = absurd n
 no_walk told table page o t (reasons.Page rule at) apart a n = absurd n
 no_walk told table page o t (reasons.Json fault) apart a n = seen_content told (json_input o) table page t n.json (bad_json fault) apart a n.there (n.refused o t)
 no_walk told table page o t reasons.Store apart a n = tt
-no_walk told table page o t reasons.Memory apart a n = tt
+no_walk told table page o t reasons.OutOfMemory apart a n = tt
 
 -- JSON that is too long is so by its prefix
 long_json : (content : List ℕ) → JSON_LIMIT < length content → json_walk content ≡ too_long
@@ -382,16 +382,16 @@ walk_of_bytes told name json w n l all e =
     record { json = l.content; there = l.there; reads = reads; all = all ∙ ap length whole }
 
 -- a fault says of an input what it says of a walk
-fault_is_said : (fault : JsonFault) → (fault ≡ json_faults.Memory → ⊥) → (o : TreeOptions) (t : List Entry) (n : ℕ) → walk_input o t n (fault_walk fault) ≡ bad_json fault
+fault_is_said : (fault : JsonFault) → (fault ≡ json_faults.OutOfMemory → ⊥) → (o : TreeOptions) (t : List Entry) (n : ℕ) → walk_input o t n (fault_walk fault) ≡ bad_json fault
 fault_is_said json_faults.TooLong other o t n = refl
 fault_is_said json_faults.NotJson other o t n = refl
 fault_is_said json_faults.NotArray other o t n = refl
 fault_is_said (json_faults.BadEvent i) other o t n = refl
 fault_is_said (json_faults.Open k) other o t n = refl
 fault_is_said (json_faults.NotSettled i k) other o t n = refl
-fault_is_said json_faults.Memory other o t n = absurd (other refl)
+fault_is_said json_faults.OutOfMemory other o t n = absurd (other refl)
 
-pub json_of_bytes : (told : Option FileMap) (name json : List ℕ) (fault : JsonFault) → IsLoaded told name JSON_LIMIT json → (fault ≡ json_faults.Memory → ⊥) → (fault ≢ json_faults.Memory → json_walk json ≡ fault_walk fault) → IsRefusedJson told name fault
+pub json_of_bytes : (told : Option FileMap) (name json : List ℕ) (fault : JsonFault) → IsLoaded told name JSON_LIMIT json → (fault ≡ json_faults.OutOfMemory → ⊥) → (fault ≢ json_faults.OutOfMemory → json_walk json ≡ fault_walk fault) → IsRefusedJson told name fault
 json_of_bytes told name json fault l other e = record {
   json = l.content;
   there = l.there;

@@ -10,9 +10,9 @@ use Rattle.hm_base.specs.declared.limits.TheConstants.{PAGE_LIMIT}
 use Rattle.hm_base.specs.declared.plain.TreeOptions.{TreeOptions}
 use Rattle.hm_base.specs.declared.rules.Rule.{Rule}
 use Rattle.hm_fragment.specs.Trees.{Outcome, built, refused_by}
-use Rattle.hm_gen.proofs.Lengths.{pages_are_within_limit}
-use Rattle.hm_gen.specs.Pages.{page as made_page}
-use Rattle.hm_gen_laws.proofs.Page.{pages_are_built}
+use Rattle.hm_measure_page.proofs.Lengths.{pages_are_within_limit}
+use Rattle.hm_measure_page.specs.Pages.{page as made_page}
+use Rattle.hm_measure_page_laws.proofs.Page.{pages_are_built}
 use Rattle.hm_input.specs.Inputs.{bad_page, bad_json, input_from, is_html, is_none, names_of_table, origin_input, page_input, page_outcome, rewritten_input}
 use Rattle.hm_json_tree.specs.declared.fault.JsonFault.{JsonFault}
 use Rattle.hm_refs.specs.Names.{Entry}
@@ -20,8 +20,8 @@ use Rattle.hm_refs.specs.Tables.{IsTable}
 use Rattle.hm_refs.specs.declared.fault.TableFault.{TableFault}
 use Rattle.hm_store.specs.Contents.{Contents}
 use Rattle.hm_words.specs.Words.{Command, CommandRow, Origin, Work, page_at, fragment_at, json_at, made, minifies, checks, shows, tells_json, explains, measures, Asked, asked, asks, are_filled, are_flags, choices_of, command_by, command_in, commands, fits, is_apart, is_number, made_of, names_in, number_in, origin_in, row_among, with_flags, with_origin, with_rest, with_work, work_in, written_of}
-use Rattle.hm_words.specs.declared.commands.Deed.{Deed}
-use Rattle.hm_words.specs.declared.commands.Deed.TheVariants as deeds
+use Rattle.hm_words.specs.declared.commands.Action.{Action}
+use Rattle.hm_words.specs.declared.commands.Action.TheVariants as deeds
 use Rattle.hm_words.specs.declared.commands.Source.{Source}
 use Rattle.hm_words.specs.declared.commands.Source.TheVariants as sources
 use Rattle.hm_input.proofs.Tables.{table_is}
@@ -76,7 +76,7 @@ front_limited (t ∷ n ∷ s ∷ rest) o e = by_origin (made_of t (number_in 0 4
 
 -- ---- The table of commands
 
-abbrev is_measure : Deed → Bool
+abbrev is_measure : Action → Bool
 is_measure deeds.Measure = true
 is_measure deed = false
 
@@ -85,13 +85,13 @@ is_number_source sources.Number = true
 is_number_source source = false
 
 -- what is measured is made of a number
-abbrev measures_made : Source × Deed → Bool
+abbrev measures_made : Source × Action → Bool
 measures_made row = not (is_measure row.1) || is_number_source row.0
 
 rows_measure_made : list_all (λ (row : CommandRow). measures_made (row.source, row.deed)) commands ≡ true
 rows_measure_made = refl
 
-among_measures_made : (rows : List CommandRow) (name : List ℕ) (row : Source × Deed) → list_all (λ (row : CommandRow). measures_made (row.source, row.deed)) rows ≡ true → row_among rows name ≡ Some row → measures_made row ≡ true
+among_measures_made : (rows : List CommandRow) (name : List ℕ) (row : Source × Action) → list_all (λ (row : CommandRow). measures_made (row.source, row.deed)) rows ≡ true → row_among rows name ≡ Some row → measures_made row ≡ true
 among_measures_made [] name row all e = cc
 among_measures_made (first ∷ rows) name row all e = by_name (bytes_eq name first.name) (among_measures_made rows name row (second_true _ _ all)) e
   where
@@ -100,7 +100,7 @@ among_measures_made (first ∷ rows) name row all e = by_name (bytes_eq name fir
     by_name false more h = more h
 
 -- the deed of a work is that of its words
-abbrev deed_of : Work → Deed
+abbrev deed_of : Work → Action
 deed_of (minifies out cert) = deeds.Minify
 deed_of (checks out cert) = deeds.Check
 deed_of shows = deeds.Show
@@ -108,7 +108,7 @@ deed_of tells_json = deeds.TellJson
 deed_of explains = deeds.Explain
 deed_of measures = deeds.Measure
 
-worded : (deed : Deed) (names : List (List ℕ)) (work : Work) → work_in deed names ≡ Some work → deed_of work ≡ deed
+worded : (deed : Action) (names : List (List ℕ)) (work : Work) → work_in deed names ≡ Some work → deed_of work ≡ deed
 worded deeds.Minify [] work e = cc
 worded deeds.Minify (out ∷ []) work e = cc
 worded deeds.Minify (out ∷ cert ∷ []) work e = ap deed_of (sym (some_is (minifies out cert) work e))
@@ -136,7 +136,7 @@ number_source sources.Fragment e = cc
 number_source sources.Json e = cc
 number_source sources.Number e = refl
 
-row_limited : (row : Source × Deed) (names : List (List ℕ)) (command : Command) → measures_made row ≡ true → command_by (Some row) names ≡ Some command → IsLimited command
+row_limited : (row : Source × Action) (names : List (List ℕ)) (command : Command) → measures_made row ≡ true → command_by (Some row) names ≡ Some command → IsLimited command
 row_limited row names command made_only e is = by_origin (origin_in row.0 names) refl e
   where
     by_work : (o : Origin × List (List ℕ)) (x : Option Work) → origin_in row.0 names ≡ Some o → work_in row.1 o.1 ≡ x → with_work o.0 x ≡ Some command → IsGenerated command.0
@@ -155,7 +155,7 @@ command_limited : (names : List (List ℕ)) (command : Command) → command_in n
 command_limited [] command e = cc
 command_limited (name ∷ names) command e = by_row (row_among commands name) refl e
   where
-    by_row : (x : Option (Source × Deed)) → row_among commands name ≡ x → command_by x names ≡ Some command → IsLimited command
+    by_row : (x : Option (Source × Action)) → row_among commands name ≡ x → command_by x names ≡ Some command → IsLimited command
     by_row None is h = cc
     by_row (Some row) is h = row_limited row names command (among_measures_made commands name row rows_measure_made is) h
 

@@ -3,7 +3,7 @@ use Rattle.std.proofs.Common.{◌≡◌, ◌∙◌, ℕ, ◌≤◌, ◌⊎◌, i
 use Rattle.std.specs.declared.option.Option.{Option}
 use Rattle.hm_base.specs.Walks.{Event}
 use Rattle.hm_base.specs.declared.plain.TreeOptions.{TreeOptions}
-use Rattle.hm_gen.specs.Pages.{page as made_page}
+use Rattle.hm_measure_page.specs.Pages.{page as made_page}
 use Rattle.hm_refs.specs.Names.{Entry}
 use Rattle.hm_store.specs.Causes.{Rose}
 use Rattle.hm_store.specs.Contents.{Tells}
@@ -11,13 +11,13 @@ use Rattle.hm_store.specs.Files.{FileMap, IsMissing, file_of}
 use Rattle.hm_words.specs.Words.{Origin, page_at, fragment_at, json_at, made, is_origin_apart, is_table_word}
 use Rattle.hm_input.specs.Inputs.{Input, IsInput, file_with_table, fragment_input, input_from, is_html, is_none, json_input, missing, names_of_table, origin_input, page_input, table_names, tree}
 use Rattle.hm_input.specs.Loads.{IsOriginMissing, IsOriginTree, IsTableOf, NoInput, NoOriginRead, NoTable, table_of}
-use Rattle.hm_input.specs.declared.unread.Unread.{Unread}
-use Rattle.hm_input.specs.declared.unread.Unread.TheVariants as reasons
+use Rattle.hm_input.specs.declared.unread.InputFault.{InputFault}
+use Rattle.hm_input.specs.declared.unread.InputFault.TheVariants as reasons
 use Rattle.hm_input.proofs.Generated as generated
 use Rattle.hm_input.proofs.Loaded.{input_of_fragment, input_of_page, input_of_walk, no_fragment, no_fragment_table, no_json_table, no_page, no_table, no_walk}
 
 -- want of memory has no cause in an origin
-pub no_memory : (told : Option FileMap) (origin : Origin) (t : List Entry) → NoOriginRead told origin t reasons.Memory
+pub no_memory : (told : Option FileMap) (origin : Origin) (t : List Entry) → NoOriginRead told origin t reasons.OutOfMemory
 no_memory told (page_at table page) t = tt
 no_memory told (fragment_at table page) t = tt
 no_memory told (json_at table page) t = tt
@@ -29,13 +29,13 @@ read_rewritten told (fragment_at table page) o t v n apart a r = input_of_fragme
 read_rewritten told (json_at table page) o t v n apart a r = input_of_walk told table page o t r.walk n v apart a r.read r.is
 read_rewritten told (made table number size) o t v n apart a r = generated.made_tree told table number size o t r.walk n v a r.read r.is
 
-pub no_origin_table : (told : Option FileMap) (origin : Origin) (o : TreeOptions) (unread : Unread) → is_origin_apart origin ≡ true → NoTable told (table_of origin) unread → NoInput told origin o unread
+pub no_origin_table : (told : Option FileMap) (origin : Origin) (o : TreeOptions) (unread : InputFault) → is_origin_apart origin ≡ true → NoTable told (table_of origin) unread → NoInput told origin o unread
 no_origin_table told (page_at table page) o unread apart n = no_table told table page o unread apart n
 no_origin_table told (fragment_at table page) o unread apart n = no_fragment_table told table page o unread apart n
 no_origin_table told (json_at table page) o unread apart n = no_json_table told table page o unread apart n
 no_origin_table told (made table number size) o unread apart n = generated.no_table told table number size o unread n
 
-none_read : (told : Option FileMap) (origin : Origin) (o : TreeOptions) (t : List Entry) (unread : Unread) → is_origin_apart origin ≡ true → IsTableOf told (table_of origin) (Ok t) → NoOriginRead told origin t unread → NoInput told origin o unread
+none_read : (told : Option FileMap) (origin : Origin) (o : TreeOptions) (t : List Entry) (unread : InputFault) → is_origin_apart origin ≡ true → IsTableOf told (table_of origin) (Ok t) → NoOriginRead told origin t unread → NoInput told origin o unread
 none_read told (page_at table page) o t unread apart a n = no_page told table page o t unread apart a n
 none_read told (fragment_at table page) o t unread apart a n = no_fragment told table page o t unread apart a n
 none_read told (json_at table page) o t unread apart a n = no_walk told table page o t unread apart a n
@@ -84,8 +84,8 @@ pub page_cause : (old new : Option FileMap) (origin : Origin) (o : TreeOptions) 
 page_cause old new origin o t before mid now same later a (inl rose) = inl (rose_on before mid now later rose)
 page_cause old new origin o t before mid now same later a (inr gone) = inr (missing_page old origin o t a (subst (λ told. IsOriginMissing told origin) same gone))
 
-pub input_behind : (old new : Option FileMap) (origin : Origin) (o : TreeOptions) (t : List Entry) (v : List Event) (n : ℕ) → new ≡ old → is_origin_apart origin ≡ true → IsTableOf old (table_of origin) (Ok t) → IsOriginTree new origin t o v n → IsInput old origin o (tree n t v)
-input_behind old new origin o t v n same apart a r = read_rewritten old origin o t v n apart a (subst (λ told. IsOriginTree told origin t o v n) same r)
+pub input_after_reading : (old new : Option FileMap) (origin : Origin) (o : TreeOptions) (t : List Entry) (v : List Event) (n : ℕ) → new ≡ old → is_origin_apart origin ≡ true → IsTableOf old (table_of origin) (Ok t) → IsOriginTree new origin t o v n → IsInput old origin o (tree n t v)
+input_after_reading old new origin o t v n same apart a r = read_rewritten old origin o t v n apart a (subst (λ told. IsOriginTree told origin t o v n) same r)
 
-pub none_behind : (old new : Option FileMap) (origin : Origin) (o : TreeOptions) (t : List Entry) (unread : Unread) → new ≡ old → is_origin_apart origin ≡ true → IsTableOf old (table_of origin) (Ok t) → NoOriginRead new origin t unread → NoInput old origin o unread
-none_behind old new origin o t unread same apart a n = none_read old origin o t unread apart a (subst (λ told. NoOriginRead told origin t unread) same n)
+pub none_follows : (old new : Option FileMap) (origin : Origin) (o : TreeOptions) (t : List Entry) (unread : InputFault) → new ≡ old → is_origin_apart origin ≡ true → IsTableOf old (table_of origin) (Ok t) → NoOriginRead new origin t unread → NoInput old origin o unread
+none_follows old new origin o t unread same apart a n = none_read old origin o t unread apart a (subst (λ told. NoOriginRead told origin t unread) same n)

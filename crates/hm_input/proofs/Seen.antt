@@ -4,7 +4,7 @@ use Rattle.std.specs.declared.option.Option.{Option}
 use Rattle.std.specs.Str.{bytes_eq}
 use Rattle.hm_base.specs.declared.plain.TreeOptions.{TreeOptions}
 use Rattle.hm_input.specs.Inputs.{Input, file_with_table, fragment_input, input_from, is_html, is_none, json_input, names_of_table, origin_input, page_input, table_names}
-use Rattle.hm_gen.specs.Pages.{page as made_page}
+use Rattle.hm_measure_page.specs.Pages.{page as made_page}
 use Rattle.hm_words.specs.Words.{Origin, page_at, fragment_at, json_at, made, is_table_word}
 use Rattle.hm_refs.proofs.Places.{same_bytes}
 use Rattle.hm_refs.specs.Names.{Entry}

@@ -4,7 +4,7 @@ use Rattle.std.specs.declared.option.Option.{Option}
 use Rattle.hm_base.specs.Walks.{Event}
 use Rattle.hm_base.specs.declared.plain.TreeOptions.{TreeOptions}
 use Rattle.hm_fragment.specs.Trees.{Outcome, built, refused_by}
-use Rattle.hm_gen.specs.Pages.{page as made_page}
+use Rattle.hm_measure_page.specs.Pages.{page as made_page}
 use Rattle.hm_input.specs.Inputs.{Input, tree as tree_input, input_from, fragment_input, fragment_outcome, json_input, origin_input, is_html, is_none, names_of_table, page_input, page_outcome, rewritten_input, table_names, walk_input}
 use Rattle.hm_json_tree.specs.Reading.{JsonWalk, walk, too_long, not_json, not_array, no_event, some_open, not_settled, json_walk}
 use Rattle.hm_html_names.proofs.Alike.{html_is}

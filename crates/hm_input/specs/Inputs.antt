@@ -12,7 +12,7 @@ use Rattle.hm_refs.specs.Names.{Entry}
 use Rattle.hm_refs.specs.declared.fault.TableFault.{TableFault}
 use Rattle.hm_fragment.specs.Trees.{Outcome, built, refused_by, page_tree}
 use Rattle.hm_fragment.specs.Fragments.{fragment_tree}
-use Rattle.hm_gen.specs.Pages.{page as made_page}
+use Rattle.hm_measure_page.specs.Pages.{page as made_page}
 use Rattle.hm_html_names.specs.HtmlNames.{html_entries}
 use Rattle.hm_json_tree.specs.Reading.{JsonWalk, walk, too_long, not_json, not_array, no_event, some_open, not_settled, json_walk}
 use Rattle.hm_json_tree.specs.declared.fault.JsonFault.{JsonFault}

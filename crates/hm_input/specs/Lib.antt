@@ -7,5 +7,5 @@ pub use Rattle.hm_fragment.specs.Fragments
 pub use Rattle.hm_fragment.specs.Frames
 pub use Rattle.hm_fragment.specs.Laws
 pub use Rattle.hm_fragment.specs.Trees
-pub use Rattle.hm_load.specs.Pages
+pub use Rattle.hm_page_loading.specs.Pages
 pub use Rattle.hm_options.specs.Rewrites

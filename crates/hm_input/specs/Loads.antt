@@ -10,15 +10,15 @@ use Rattle.hm_refs.specs.Names.{Entry}
 use Rattle.hm_refs.specs.declared.fault.TableFault.{TableFault}
 use Rattle.hm_fragment.specs.Trees.{built, refused_by}
 use Rattle.hm_fragment.specs.Fragments.{fragment_tree}
-use Rattle.hm_gen.specs.Pages.{page as made_page}
-use Rattle.hm_load.specs.Pages.{IsPageTree, IsRefusedPage}
+use Rattle.hm_measure_page.specs.Pages.{page as made_page}
+use Rattle.hm_page_loading.specs.Pages.{IsPageTree, IsRefusedPage}
 use Rattle.hm_json_tree.specs.Reading.{json_walk, walk}
 use Rattle.hm_json_tree.specs.declared.fault.JsonFault.{JsonFault}
 use Rattle.hm_options.specs.Rewrites.{rewrite}
 use Rattle.hm_input.specs.Inputs.{Input, IsInput, bad_table, bad_page, bad_json, json_input, names_of_table, fragment_outcome, page_outcome}
 use Rattle.hm_words.specs.Words.{Origin, page_at, fragment_at, json_at, made, is_table_word}
-use Rattle.hm_input.specs.declared.unread.Unread.{Unread}
-use Rattle.hm_input.specs.declared.unread.Unread.TheVariants as reasons
+use Rattle.hm_input.specs.declared.unread.InputFault.{InputFault}
+use Rattle.hm_input.specs.declared.unread.InputFault.TheVariants as reasons
 
 -- the bytes that were loaded of a file with this content, one more than the limit at most
 pub record IsLoaded (told : Option FileMap) (name : List ℕ) (limit : ℕ) (bytes : List ℕ) : Type 0 where
@@ -79,20 +79,20 @@ pub record IsRefusedJson (told : Option FileMap) (name : List ℕ) (fault : Json
   pub refused : IsNoWalk json fault
 
 -- why a page has no tree
-abbrev pub NoTreeOf : List ℕ → List Entry → Unread → Type 0
+abbrev pub NoTreeOf : List ℕ → List Entry → InputFault → Type 0
 NoTreeOf page t (reasons.Table fault) = ⊥
 NoTreeOf page t (reasons.Page rule at) = page_outcome t page ≡ refused_by rule at
 NoTreeOf page t (reasons.Json fault) = ⊥
 NoTreeOf page t reasons.Store = ⊥
-NoTreeOf page t reasons.Memory = Unit {0}
+NoTreeOf page t reasons.OutOfMemory = Unit {0}
 
 -- why there is no tree of the page in a file
-abbrev pub NoPage : Option FileMap → List ℕ → List Entry → Unread → Type 0
+abbrev pub NoPage : Option FileMap → List ℕ → List Entry → InputFault → Type 0
 NoPage told name t (reasons.Table fault) = ⊥
 NoPage told name t (reasons.Page rule at) = IsRefusedPage told name t rule at
 NoPage told name t (reasons.Json fault) = ⊥
 NoPage told name t reasons.Store = Unit {0}
-NoPage told name t reasons.Memory = Unit {0}
+NoPage told name t reasons.OutOfMemory = Unit {0}
 
 -- a table that can be read
 pub record HasNames (told : Option FileMap) (name : List ℕ) : Type 0 where
@@ -104,44 +104,44 @@ abbrev pub IsFileMissing : Option FileMap → List ℕ → List ℕ → Type 0
 IsFileMissing told table page = ((is_table_word table ≡ false) × IsMissing told table) ⊎ (HasNames told table × IsMissing told page)
 
 -- why there is no table; failed calls and lack of memory have other causes
-abbrev pub NoTable : Option FileMap → List ℕ → Unread → Type 0
+abbrev pub NoTable : Option FileMap → List ℕ → InputFault → Type 0
 NoTable told name (reasons.Table fault) = IsTableOf told name (Err fault)
 NoTable told name (reasons.Page rule at) = ⊥
 NoTable told name (reasons.Json fault) = ⊥
 NoTable told name reasons.Store = Unit {0}
-NoTable told name reasons.Memory = Unit {0}
+NoTable told name reasons.OutOfMemory = Unit {0}
 
 -- why a page has no text, whatever the names of references
-abbrev pub NoTextIn : List ℕ → Unread → Type 0
+abbrev pub NoTextIn : List ℕ → InputFault → Type 0
 NoTextIn page (reasons.Table fault) = ⊥
 NoTextIn page (reasons.Page rule at) = (t : List Entry) → page_outcome t page ≡ refused_by rule at
 NoTextIn page (reasons.Json fault) = ⊥
 NoTextIn page reasons.Store = ⊥
-NoTextIn page reasons.Memory = Unit {0}
+NoTextIn page reasons.OutOfMemory = Unit {0}
 
 -- why a fragment has no tree
-abbrev pub NoFragmentIn : List Entry → List ℕ → Unread → Type 0
+abbrev pub NoFragmentIn : List Entry → List ℕ → InputFault → Type 0
 NoFragmentIn t fragment (reasons.Table fault) = ⊥
 NoFragmentIn t fragment (reasons.Page rule at) = fragment_tree t fragment ≡ refused_by rule at
 NoFragmentIn t fragment (reasons.Json fault) = ⊥
 NoFragmentIn t fragment reasons.Store = ⊥
-NoFragmentIn t fragment reasons.Memory = Unit {0}
+NoFragmentIn t fragment reasons.OutOfMemory = Unit {0}
 
 -- why there is no tree of the fragment in a file
-abbrev pub NoFragment : Option FileMap → List ℕ → List Entry → Unread → Type 0
+abbrev pub NoFragment : Option FileMap → List ℕ → List Entry → InputFault → Type 0
 NoFragment told name t (reasons.Table fault) = ⊥
 NoFragment told name t (reasons.Page rule at) = IsRefusedFragment told name t rule at
 NoFragment told name t (reasons.Json fault) = ⊥
 NoFragment told name t reasons.Store = Unit {0}
-NoFragment told name t reasons.Memory = Unit {0}
+NoFragment told name t reasons.OutOfMemory = Unit {0}
 
 -- why there is no tree in the JSON of a file
-abbrev pub NoWalk : Option FileMap → List ℕ → Unread → Type 0
+abbrev pub NoWalk : Option FileMap → List ℕ → InputFault → Type 0
 NoWalk told name (reasons.Table fault) = ⊥
 NoWalk told name (reasons.Page rule at) = ⊥
 NoWalk told name (reasons.Json fault) = IsRefusedJson told name fault
 NoWalk told name reasons.Store = Unit {0}
-NoWalk told name reasons.Memory = Unit {0}
+NoWalk told name reasons.OutOfMemory = Unit {0}
 
 -- ---- an origin with the names of its table
 
@@ -165,7 +165,7 @@ pub record IsOriginTree (told : Option FileMap) (origin : Origin) (t : List Entr
   pub is : tree ≡ rewrite o walk
 
 -- why it gives none
-abbrev pub NoOriginRead : Option FileMap → Origin → List Entry → Unread → Type 0
+abbrev pub NoOriginRead : Option FileMap → Origin → List Entry → InputFault → Type 0
 NoOriginRead told (page_at table page) t unread = NoPage told page t unread
 NoOriginRead told (fragment_at table page) t unread = NoFragment told page t unread
 NoOriginRead told (json_at table page) t unread = NoWalk told page unread
@@ -179,12 +179,12 @@ IsOriginMissing told (json_at table page) = IsMissing told page
 IsOriginMissing told (made table number size) = ⊥
 
 -- why there is no tree, by what is said of an input
-abbrev pub NoInputWhere : (Input → Type 0) → Unread → Type 0
+abbrev pub NoInputWhere : (Input → Type 0) → InputFault → Type 0
 NoInputWhere Is (reasons.Table fault) = Is (bad_table fault)
 NoInputWhere Is (reasons.Page rule at) = Is (bad_page rule at)
 NoInputWhere Is (reasons.Json fault) = Is (bad_json fault)
 NoInputWhere Is reasons.Store = Unit {0}
-NoInputWhere Is reasons.Memory = Unit {0}
+NoInputWhere Is reasons.OutOfMemory = Unit {0}
 
-abbrev pub NoInput : Option FileMap → Origin → TreeOptions → Unread → Type 0
+abbrev pub NoInput : Option FileMap → Origin → TreeOptions → InputFault → Type 0
 NoInput told origin o unread = NoInputWhere (IsInput told origin o) unread

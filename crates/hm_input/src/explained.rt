@@ -1,6 +1,6 @@
 //! A page that is loaded to be explained.
 ghost use Rattle.std.specs.Prelude.{◌≡◌, ◌⊎◌, ◌≤◌, IfOk, IfErr, Err, true};
-ghost use Rattle.hm_load.specs.Pages.{IsRefusedAs};
+ghost use Rattle.hm_page_loading.specs.Pages.{IsRefusedAs};
 ghost use Rattle.hm_fragment.specs.Trees.{built};
 ghost use Rattle.hm_elements.specs.Settled.{Settled};
 ghost use Rattle.hm_store.specs.Causes.{Rose};
@@ -11,10 +11,10 @@ ghost use Rattle.hm_input.specs.Inputs.{missing, origin_input, page_outcome};
 ghost use Rattle.hm_input.specs.Loads.{NoTable};
 
 use crate::loads::load_table;
-use crate::{Input, Unread};
+use crate::{Input, InputFault};
 use hm_base::{PAGE_LIMIT, Refused, Rule, SourceText, TreeOptions};
-use hm_load::parse;
 use hm_options::rewrite;
+use hm_page_loading::parse;
 use hm_refs::Table;
 use hm_store::{Store, load};
 use hm_tree::Tree;
@@ -41,13 +41,13 @@ fn parse_page(alloc: Global, page: Vec<u8>, table: &Table) -> Result<Tree, Refus
 }
 
 /// What is found of a page that is refused, of which these bytes are kept.
-fn refused_found(page: Vec<u8>, refused: Refused) -> Result<Found, Unread>
+fn refused_found(page: Vec<u8>, refused: Refused) -> Result<Found, InputFault>
     ensures ok { IfOk result (IsRefusalFound page.items refused) }
-    ensures err { IfErr result (λ unread. unread ≡ Unread.Memory) }
+    ensures err { IfErr result (λ unread. unread ≡ InputFault.OutOfMemory) }
 {
     match refused {
         Refused::Page { rule, at } => Ok(Found::Refused { page, rule, at }),
-        Refused::Memory => Err(Unread::Memory),
+        Refused::OutOfMemory => Err(InputFault::OutOfMemory),
     }
 }
 
@@ -58,21 +58,21 @@ pub fn load_explained<S: Store>(
     table: &str,
     page: &str,
     options: &TreeOptions,
-) -> Result<Found, Unread>
+) -> Result<Found, InputFault>
     requires apart { is_origin_apart (page_at table.now page.now) ≡ true }
     ensures ok { IfOk result (IsFound (S.files store.old) table.now page.now options.now) }
     ensures err { IfErr result (NoTable (S.files store.old) table.now) }
     ensures same { S.files store.new ≡ S.files store.old }
     ensures writing { S.is_writing store.new ≡ S.is_writing store.old }
     ensures later { S.faults store.old ≤ S.faults store.new }
-    ensures store { result ≡ Err Unread.Store → Rose (S.faults store.old) (S.faults store.new)
+    ensures store { result ≡ Err InputFault.Store → Rose (S.faults store.old) (S.faults store.new)
         ⊎ Tells (S.files store.old) (λ seen. origin_input (page_at table.now page.now) options.now seen ≡ missing) }
 {
     let table = load_table(alloc, store, table)?;
     let page = load(alloc, store, page, PAGE_LIMIT)?;
     let bytes = page.len();
     let Ok(kept) = Vec::from_slice(alloc, page.as_slice()) else {
-        return Err(Unread::Memory);
+        return Err(InputFault::OutOfMemory);
     };
     match parse_page(alloc, page, &table) {
         Ok(parsed) => {

@@ -10,9 +10,9 @@ ghost use Rattle.hm_input.specs.Inputs.{IsInput, origin_input, missing};
 ghost use Rattle.hm_input.specs.Loads as loads;
 ghost use Rattle.hm_input.specs.Loads.{IsOriginMissing, IsOriginRead, IsOriginTree, NoInput, NoOriginRead};
 
-use crate::Unread;
+use crate::InputFault;
 use crate::loads::{load_fragment, load_json, load_page_tree, load_table, make_tree};
-use hm_base::{Memory, TreeOptions};
+use hm_base::{OutOfMemory, TreeOptions};
 use hm_options::rewrite;
 use hm_refs::Table;
 use hm_store::Store;
@@ -47,14 +47,14 @@ fn load_origin<S: Store>(
     store: &mut S,
     origin: &Origin<'_>,
     table: &Table,
-) -> Result<(Tree, usize), Unread>
+) -> Result<(Tree, usize), InputFault>
     ensures ok { IfOk result (λ read. IsOriginRead (S.files store.old) (origin_of origin.now) table.now.entries read.0 read.1) }
     ensures settled { IfOk result (λ read. Settled read.0) }
     ensures err { IfErr result (NoOriginRead (S.files store.old) (origin_of origin.now) table.now.entries) }
     ensures same { S.files store.new ≡ S.files store.old }
     ensures writing { S.is_writing store.new ≡ S.is_writing store.old }
     ensures later { S.faults store.old ≤ S.faults store.new }
-    ensures store { result ≡ Err Unread.Store → Rose (S.faults store.old) (S.faults store.new) ⊎ IsOriginMissing (S.files store.old) (origin_of origin.now) }
+    ensures store { result ≡ Err InputFault.Store → Rose (S.faults store.old) (S.faults store.new) ⊎ IsOriginMissing (S.files store.old) (origin_of origin.now) }
 {
     match *origin {
         Origin::PageAt { page, .. } => load_page_tree(alloc, store, page, table),
@@ -72,19 +72,19 @@ fn load_rewritten<S: Store>(
     origin: &Origin<'_>,
     table: &Table,
     options: &TreeOptions,
-) -> Result<(Tree, usize), Unread>
+) -> Result<(Tree, usize), InputFault>
     ensures ok { IfOk result (λ read. IsOriginTree (S.files store.old) (origin_of origin.now) table.now.entries options.now read.0 read.1) }
     ensures settled { IfOk result (λ read. Settled read.0) }
     ensures err { IfErr result (NoOriginRead (S.files store.old) (origin_of origin.now) table.now.entries) }
     ensures same { S.files store.new ≡ S.files store.old }
     ensures writing { S.is_writing store.new ≡ S.is_writing store.old }
     ensures later { S.faults store.old ≤ S.faults store.new }
-    ensures store { result ≡ Err Unread.Store → Rose (S.faults store.old) (S.faults store.new) ⊎ IsOriginMissing (S.files store.old) (origin_of origin.now) }
+    ensures store { result ≡ Err InputFault.Store → Rose (S.faults store.old) (S.faults store.new) ⊎ IsOriginMissing (S.files store.old) (origin_of origin.now) }
 {
     match load_origin(alloc, store, origin, table) {
         Ok((read, bytes)) => match rewrite(alloc, read, options) {
             Ok(tree) => Ok((tree, bytes)),
-            Err(Memory) => Err(Unread::Memory),
+            Err(OutOfMemory) => Err(InputFault::OutOfMemory),
         },
         Err(unread) => Err(unread),
     }
@@ -97,7 +97,7 @@ pub fn load_input<S: Store>(
     store: &mut S,
     origin: &Origin<'_>,
     options: &TreeOptions,
-) -> Result<Input, Unread>
+) -> Result<Input, InputFault>
     requires apart { is_origin_apart (origin_of origin.now) ≡ true }
     ensures ok { IfOk result (λ input. IsInput (S.files store.old) (origin_of origin.now) options.now (inputs.tree input.bytes input.table.entries input.tree)) }
     ensures settled { IfOk result (λ input. Settled input.tree) }
@@ -105,7 +105,7 @@ pub fn load_input<S: Store>(
     ensures same { S.files store.new ≡ S.files store.old }
     ensures writing { S.is_writing store.new ≡ S.is_writing store.old }
     ensures later { S.faults store.old ≤ S.faults store.new }
-    ensures store { result ≡ Err Unread.Store → Rose (S.faults store.old) (S.faults store.new)
+    ensures store { result ≡ Err InputFault.Store → Rose (S.faults store.old) (S.faults store.new)
         ⊎ Tells (S.files store.old) (λ seen. origin_input (origin_of origin.now) options.now seen ≡ missing) }
 {
     match load_table(alloc, store, table_of(origin)) {

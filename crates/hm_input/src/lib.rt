@@ -9,4 +9,4 @@ mod unread;
 pub use explained::{Found, load_explained};
 pub use hm_fragment::{front, read_fragment};
 pub use input::{Input, load_input};
-pub use unread::Unread;
+pub use unread::InputFault;

@@ -8,44 +8,44 @@ ghost use Rattle.hm_fragment.specs.Trees.{built, tree_of_source};
 ghost use Rattle.hm_fragment.specs.Fragments.{fragment_tree};
 ghost use Rattle.hm_fragment.specs.Frames as frames;
 ghost use Rattle.hm_fragment.specs.Frames.{unframed};
-ghost use Rattle.hm_gen.specs.Pages.{page as made_page};
-ghost use Rattle.hm_load.specs.Pages.{IsPageTree, IsRefusedAs};
+ghost use Rattle.hm_measure_page.specs.Pages.{page as made_page};
+ghost use Rattle.hm_page_loading.specs.Pages.{IsPageTree, IsRefusedAs};
 ghost use Rattle.hm_store.specs.Causes.{Rose};
 ghost use Rattle.hm_store.specs.Files.{FileMap, IsMissing};
 ghost use Rattle.hm_words.specs.Words.{is_table_word};
 ghost use Rattle.hm_input.specs.Loads.{IsFragmentOf, IsPageText, IsTableOf, IsTreeOf, IsRefusedJson, IsWalkOf, NoFragment, NoFragmentIn, NoPage, NoTable, NoTextIn, NoTreeOf, NoWalk};
 
-use crate::Unread;
+use crate::InputFault;
 use hm_base::{OUTPUT_LIMIT, PAGE_LIMIT, Refused, Rule, SourceText, TABLE_LIMIT, TextFault};
 use hm_fragment::{front, read_fragment};
-use hm_gen::page_of;
 use hm_html_names::html_table;
 use hm_json_tree::{JSON_LIMIT, JsonFault, read_tree};
-use hm_load::{load_page, parse};
+use hm_measure_page::page_of;
+use hm_page_loading::{load_page, parse};
 use hm_refs::{Table, TableFault};
-use hm_store::{Store, load, load_behind};
+use hm_store::{Store, load, load_with_prefix};
 use hm_tree::Tree;
 use std::alloc::Global;
 
 /// Why there is no table with this fault.
-fn unread_table(fault: TableFault) -> Unread
-    ensures other { result ≢ Unread.Store }
-    ensures reason { (told : Option FileMap) (name : List ℕ) → (fault ≢ TableFault.Memory → IsTableOf told name (Err fault)) → NoTable told name result }
+fn unread_table(fault: TableFault) -> InputFault
+    ensures other { result ≢ InputFault.Store }
+    ensures reason { (told : Option FileMap) (name : List ℕ) → (fault ≢ TableFault.OutOfMemory → IsTableOf told name (Err fault)) → NoTable told name result }
 {
     match fault {
-        TableFault::Memory => Unread::Memory,
-        fault => Unread::Table { fault },
+        TableFault::OutOfMemory => InputFault::OutOfMemory,
+        fault => InputFault::Table { fault },
     }
 }
 
 /// The table of that name: `none` is the one without names, `html` that of the HTML Standard, and neither is a file.
-pub fn load_table<S: Store>(alloc: Global, store: &mut S, name: &str) -> Result<Table, Unread>
+pub fn load_table<S: Store>(alloc: Global, store: &mut S, name: &str) -> Result<Table, InputFault>
     ensures same { S.files store.new ≡ S.files store.old }
     ensures writing { S.is_writing store.new ≡ S.is_writing store.old }
     ensures ok { IfOk result (λ table. IsTableOf (S.files store.old) name.now (Ok table.entries)) }
     ensures err { IfErr result (NoTable (S.files store.old) name.now) }
     ensures later { S.faults store.old ≤ S.faults store.new }
-    ensures store { result ≡ Err Unread.Store → Rose (S.faults store.old) (S.faults store.new) ⊎ (is_table_word name.now ≡ false) × IsMissing (S.files store.old) name.now }
+    ensures store { result ≡ Err InputFault.Store → Rose (S.faults store.old) (S.faults store.new) ⊎ (is_table_word name.now ≡ false) × IsMissing (S.files store.old) name.now }
 {
     if name == "none" {
         let table = Table::empty(alloc)?;
@@ -72,19 +72,19 @@ fn read_page(alloc: Global, bytes: Vec<u8>) -> Result<SourceText, TextFault>
 }
 
 /// The text of a page and how many bytes the page has, or why it is refused.
-fn text_of(alloc: Global, page: Vec<u8>) -> Result<(SourceText, usize), Unread>
+fn text_of(alloc: Global, page: Vec<u8>) -> Result<(SourceText, usize), InputFault>
     ensures ok { IfOk result (λ read. IsPageText page.items read.0 read.1) }
     ensures err { IfErr result (NoTextIn page.items) }
 {
     let bytes = page.len();
     match read_page(alloc, page) {
         Ok(text) => Ok((text, bytes)),
-        Err(fault) => Err(Unread::from(fault.refusal(PAGE_LIMIT))),
+        Err(fault) => Err(InputFault::from(fault.refusal(PAGE_LIMIT))),
     }
 }
 
 /// The text of the page of a number, with `size` blocks, and how many bytes the page has.
-fn make_text(alloc: Global, number: u32, size: u32) -> Result<(SourceText, usize), Unread>
+fn make_text(alloc: Global, number: u32, size: u32) -> Result<(SourceText, usize), InputFault>
     ensures ok { IfOk result (λ read. IsPageText (made_page number size) read.0 read.1) }
     ensures err { IfErr result (NoTextIn (made_page number size)) }
 {
@@ -110,16 +110,16 @@ pub fn make_tree(
     number: u32,
     size: u32,
     table: &Table,
-) -> Result<(Tree, usize), Unread>
+) -> Result<(Tree, usize), InputFault>
     ensures ok { IfOk result (λ read. IsTreeOf (made_page number size) table.now.entries read.0 read.1) }
     ensures settled { IfOk result (λ read. Settled read.0) }
     ensures err { IfErr result (NoTreeOf (made_page number size) table.now.entries) }
-    ensures other { result ≢ Err Unread.Store }
+    ensures other { result ≢ Err InputFault.Store }
 {
     match make_text(alloc, number, size) {
         Ok((text, bytes)) => match text_tree(alloc, text, table) {
             Ok(tree) => Ok((tree, bytes)),
-            Err(refused) => Err(Unread::from(refused)),
+            Err(refused) => Err(InputFault::from(refused)),
         },
         Err(unread) => Err(unread),
     }
@@ -131,23 +131,23 @@ pub fn load_page_tree<S: Store>(
     store: &mut S,
     name: &str,
     table: &Table,
-) -> Result<(Tree, usize), Unread>
+) -> Result<(Tree, usize), InputFault>
     ensures same { S.files store.new ≡ S.files store.old }
     ensures writing { S.is_writing store.new ≡ S.is_writing store.old }
     ensures ok { IfOk result (λ read. IsPageTree (S.files store.old) name.now table.now.entries read.0 read.1) }
     ensures settled { IfOk result (λ read. Settled read.0) }
     ensures err { IfErr result (NoPage (S.files store.old) name.now table.now.entries) }
     ensures later { S.faults store.old ≤ S.faults store.new }
-    ensures store { result ≡ Err Unread.Store → Rose (S.faults store.old) (S.faults store.new) ⊎ IsMissing (S.files store.old) name.now }
+    ensures store { result ≡ Err InputFault.Store → Rose (S.faults store.old) (S.faults store.new) ⊎ IsMissing (S.files store.old) name.now }
 {
     match load_page(alloc, store, name, table) {
         Ok(read) => Ok(read),
-        Err(fault) => Err(Unread::from(fault)),
+        Err(fault) => Err(InputFault::from(fault)),
     }
 }
 
 /// The tree of a fragment after its front, or why it is refused.
-fn fragment_tree_of(alloc: Global, page: Vec<u8>, table: &Table) -> Result<Tree, Unread>
+fn fragment_tree_of(alloc: Global, page: Vec<u8>, table: &Table) -> Result<Tree, InputFault>
     requires front { StartsWith page.items frames.front }
     requires short { length page.items ≤ OUTPUT_LIMIT }
     ensures ok { IfOk result (λ tree. fragment_tree table.now.entries (unframed page.items) ≡ built tree) }
@@ -164,19 +164,19 @@ pub fn load_fragment<S: Store>(
     store: &mut S,
     name: &str,
     table: &Table,
-) -> Result<(Tree, usize), Unread>
+) -> Result<(Tree, usize), InputFault>
     ensures same { S.files store.new ≡ S.files store.old }
     ensures writing { S.is_writing store.new ≡ S.is_writing store.old }
     ensures ok { IfOk result (λ read. IsFragmentOf (S.files store.old) name.now table.now.entries read.0 read.1) }
     ensures settled { IfOk result (λ read. Settled read.0) }
     ensures err { IfErr result (NoFragment (S.files store.old) name.now table.now.entries) }
     ensures later { S.faults store.old ≤ S.faults store.new }
-    ensures store { result ≡ Err Unread.Store → Rose (S.faults store.old) (S.faults store.new) ⊎ IsMissing (S.files store.old) name.now }
+    ensures store { result ≡ Err InputFault.Store → Rose (S.faults store.old) (S.faults store.new) ⊎ IsMissing (S.files store.old) name.now }
 {
-    let page = load_behind(alloc, store, name, front(), PAGE_LIMIT)?;
+    let page = load_with_prefix(alloc, store, name, front(), PAGE_LIMIT)?;
     let bytes = page.len() - front().len();
     if bytes > PAGE_LIMIT as usize {
-        return Err(Unread::Page {
+        return Err(InputFault::Page {
             rule: Rule::TooLong,
             at: PAGE_LIMIT,
         });
@@ -186,13 +186,13 @@ pub fn load_fragment<S: Store>(
 }
 
 /// Why there is no tree with this fault of its JSON.
-fn unread_json(fault: JsonFault) -> Unread
-    ensures other { result ≢ Unread.Store }
-    ensures reason { (told : Option FileMap) (name : List ℕ) → (fault ≢ JsonFault.Memory → IsRefusedJson told name fault) → NoWalk told name result }
+fn unread_json(fault: JsonFault) -> InputFault
+    ensures other { result ≢ InputFault.Store }
+    ensures reason { (told : Option FileMap) (name : List ℕ) → (fault ≢ JsonFault.OutOfMemory → IsRefusedJson told name fault) → NoWalk told name result }
 {
     match fault {
-        JsonFault::Memory => Unread::Memory,
-        fault => Unread::Json { fault },
+        JsonFault::OutOfMemory => InputFault::OutOfMemory,
+        fault => InputFault::Json { fault },
     }
 }
 
@@ -201,14 +201,14 @@ pub fn load_json<S: Store>(
     alloc: Global,
     store: &mut S,
     name: &str,
-) -> Result<(Tree, usize), Unread>
+) -> Result<(Tree, usize), InputFault>
     ensures same { S.files store.new ≡ S.files store.old }
     ensures writing { S.is_writing store.new ≡ S.is_writing store.old }
     ensures ok { IfOk result (λ read. IsWalkOf (S.files store.old) name.now read.0 read.1) }
     ensures settled { IfOk result (λ read. Settled read.0) }
     ensures err { IfErr result (NoWalk (S.files store.old) name.now) }
     ensures later { S.faults store.old ≤ S.faults store.new }
-    ensures store { result ≡ Err Unread.Store → Rose (S.faults store.old) (S.faults store.new) ⊎ IsMissing (S.files store.old) name.now }
+    ensures store { result ≡ Err InputFault.Store → Rose (S.faults store.old) (S.faults store.new) ⊎ IsMissing (S.files store.old) name.now }
 {
     let json = load(alloc, store, name, JSON_LIMIT)?;
     let bytes = json.len();

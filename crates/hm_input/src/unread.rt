@@ -1,13 +1,13 @@
 //! Why there is no tree.
-use hm_base::{Memory, Refused, Rule};
+use hm_base::{OutOfMemory, Refused, Rule};
 use hm_json_tree::JsonFault;
-use hm_load::PageFault;
+use hm_page_loading::PageLoadFault;
 use hm_refs::TableFault;
 use hm_store::LoadFault;
 
 /// Why the files of a run give no tree.
 #[derive(Drop)]
-pub enum Unread {
+pub enum InputFault {
     /// The table is refused.
     Table { fault: TableFault },
     /// The page is refused, at a byte of it.
@@ -17,21 +17,21 @@ pub enum Unread {
     /// A call on the store has failed, or a file isn't there.
     Store,
     /// Memory was refused.
-    Memory,
+    OutOfMemory,
 }
 
-impl From<Memory> for Unread {
+impl From<OutOfMemory> for InputFault {
     ghost use Rattle.std.specs.Prelude.{◌≡◌};
-    ghost use Rattle.hm_input.specs.declared.unread.Unread.TheVariants as reasons;
+    ghost use Rattle.hm_input.specs.declared.unread.InputFault.TheVariants as reasons;
 
-    ghost from_gives = { λ _ unread. unread ≡ reasons.Memory };
+    ghost from_gives = { λ _ unread. unread ≡ reasons.OutOfMemory };
 
-    fn from(_error: Memory) -> Self {
-        Unread::Memory
+    fn from(_error: OutOfMemory) -> Self {
+        InputFault::OutOfMemory
     }
 }
 
-impl From<LoadFault> for Unread {
+impl From<LoadFault> for InputFault {
     ghost use Rattle.std.specs.Prelude.{◌≡◌};
     ghost use Rattle.hm_input.specs.Reasons.{unread_of};
 
@@ -39,13 +39,13 @@ impl From<LoadFault> for Unread {
 
     fn from(fault: LoadFault) -> Self {
         match fault {
-            LoadFault::Store => Unread::Store,
-            LoadFault::Memory => Unread::Memory,
+            LoadFault::Store => InputFault::Store,
+            LoadFault::OutOfMemory => InputFault::OutOfMemory,
         }
     }
 }
 
-impl From<Refused> for Unread {
+impl From<Refused> for InputFault {
     ghost use Rattle.std.specs.Prelude.{◌≡◌};
     ghost use Rattle.hm_input.specs.Reasons.{refused_as};
 
@@ -53,23 +53,23 @@ impl From<Refused> for Unread {
 
     fn from(refused: Refused) -> Self {
         match refused {
-            Refused::Page { rule, at } => Unread::Page { rule, at },
-            Refused::Memory => Unread::Memory,
+            Refused::Page { rule, at } => InputFault::Page { rule, at },
+            Refused::OutOfMemory => InputFault::OutOfMemory,
         }
     }
 }
 
-impl From<PageFault> for Unread {
+impl From<PageLoadFault> for InputFault {
     ghost use Rattle.std.specs.Prelude.{◌≡◌};
     ghost use Rattle.hm_input.specs.Reasons.{page_unread};
 
     ghost from_gives = { λ fault unread. unread ≡ page_unread fault };
 
-    fn from(fault: PageFault) -> Self {
+    fn from(fault: PageLoadFault) -> Self {
         match fault {
-            PageFault::Page { rule, at } => Unread::Page { rule, at },
-            PageFault::Store => Unread::Store,
-            PageFault::Memory => Unread::Memory,
+            PageLoadFault::Page { rule, at } => InputFault::Page { rule, at },
+            PageLoadFault::Store => InputFault::Store,
+            PageLoadFault::OutOfMemory => InputFault::OutOfMemory,
         }
     }
 }

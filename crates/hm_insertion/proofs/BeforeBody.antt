@@ -12,7 +12,7 @@ use Rattle.hm_elements.specs.Paths.{is_in_text, html_element}
 use Rattle.hm_elements.proofs.TableTools.{same_bytes, entry_passes, second_of}
 use Rattle.hm_tree.specs.Trees.{HasRoom, end_of}
 use Rattle.hm_construction_laws.specs.Steps as steps
-use Rattle.hm_construction_laws.specs.Steps.{Construction, Stepped, went, stops, behind_events, moved, html_start, start_inside, reach_body, opened, closes_at_once, under_html, under_head, under_body}
+use Rattle.hm_construction_laws.specs.Steps.{Construction, Stepped, went, stops, stepped_after_events, moved, html_start, start_inside, reach_body, opened, closes_at_once, under_html, under_head, under_body}
 use Rattle.hm_insertion.specs.Building.{Fits, grown}
 use Rattle.hm_insertion.specs.BeforeBody.{TakesChildren, html_opened, head_opened, in_open_head, has_begun}
 use Rattle.hm_insertion.specs.Inside.{insertion_mode_of, open_path, text_name, inside_head, under_noscript, state_of, has_no_text, head_ended, IsUnbegun, IsKept, IsDone}
@@ -24,12 +24,12 @@ use Rattle.hm_insertion.specs.declared.parts.Parts.{Parts}
 use Rattle.hm_insertion.proofs.Events.{HasRoom-front, path_after-append, walk_any}
 use Rattle.hm_insertion.proofs.Open.{false_true, no_text_in_head, true_false}
 use Rattle.hm_insertion.proofs.Others.{any_done}
-use Rattle.hm_insertion.proofs.Texts.{behind_nothing}
+use Rattle.hm_insertion.proofs.Texts.{after_nothing}
 use Rattle.hm_insertion.proofs.Unbegun.{unbegun_fresh, at_its_mode, kept_at}
 
 -- ---- A step after events that were appended to the walk
 
-pub done_then : (es : List Event) (s : Stepped) (old mid new : Parts) → mid.maker ≡ old.maker ++ es → IsDone s mid new → IsDone (behind_events es s) old new
+pub done_then : (es : List Event) (s : Stepped) (old mid new : Parts) → mid.maker ≡ old.maker ++ es → IsDone s mid new → IsDone (stepped_after_events es s) old new
 unfolding grown
 done_then es (went fs st) old mid new is done = record {
   kept = done.kept;
@@ -37,10 +37,10 @@ done_then es (went fs st) old mid new is done = record {
 }
 done_then es (stops rule n) old mid new is done = absurd done.stepped
 
-pub room_then : (es : List Event) (n : List ℕ) (attributes : List Attribute) (st : Construction) (w : List Event) → Fits (behind_events es (opened n attributes st)) w → HasRoom (w ++ es)
+pub room_then : (es : List Event) (n : List ℕ) (attributes : List Attribute) (st : Construction) (w : List Event) → Fits (stepped_after_events es (opened n attributes st)) w → HasRoom (w ++ es)
 room_then es n attributes st w fits = by (closes_at_once false (html_element n ∷ st.path)) _ _ _ _ fits
   where
-    by : (b : Bool) (fs gs : List Event) (s t : Construction) → Fits (behind_events es (cond b (went fs s) (went gs t))) w → HasRoom (w ++ es)
+    by : (b : Bool) (fs gs : List Event) (s t : Construction) → Fits (stepped_after_events es (cond b (went fs s) (went gs t))) w → HasRoom (w ++ es)
     by true fs gs s t room = HasRoom-front (w ++ es) fs (subst HasRoom (sym (append_assoc w es fs)) room)
     by false fs gs s t room = HasRoom-front (w ++ es) gs (subst HasRoom (sym (append_assoc w es gs)) room)
 
@@ -109,7 +109,7 @@ html_room p attributes which fits = by p.insertion_mode which fits
 
 module _ (w : List Event) (path : List Element) (drops : Bool) (inner last : Vec (List ℕ) Global) where
   abbrev pub parts : BuilderMode → Parts
-  parts ph = record { maker = w; insertion_mode = ph; path = path; drops_line_feed = drops; behind_body = inner; behind_html = last }
+  parts ph = record { maker = w; insertion_mode = ph; path = path; drops_line_feed = drops; comments_after_body = inner; comments_after_html = last }
 
   pub body_went : (attributes : List Attribute) (ph : BuilderMode) → IsUnbegun ph → steps.open_body (insertion_mode_of ph) attributes (state_of (parts ph)) ≡ went (head_ended ph ++ start body false attributes ∷ []) (moved (state_of (parts ph)) steps.in_body under_body)
   body_went attributes Initial u = absurd u
@@ -169,15 +169,15 @@ module _ (w : List Event) (path : List Element) (drops : Bool) (inner last : Vec
 
   -- ---- Children of head
 
-  nested : (es fs : List Event) (s : Stepped) → behind_events es (behind_events fs s) ≡ behind_events (es ++ fs) s
+  nested : (es fs : List Event) (s : Stepped) → stepped_after_events es (stepped_after_events fs s) ≡ stepped_after_events (es ++ fs) s
   nested es fs (went gs st) = ap (λ x. went x st) (sym (append_assoc es fs gs))
   nested es fs (stops rule n) = refl
 
-  pub child_step : (n : List ℕ) (attributes : List Attribute) (slash : Bool) (ph : BuilderMode) → TakesChildren ph → may_stand n head (Some html) ≡ true → start_inside (insertion_mode_of ph) n attributes slash (state_of (parts ph)) ≡ behind_events (head_opened ph) (opened n attributes (state_of (parts (InHead false None))))
+  pub child_step : (n : List ℕ) (attributes : List Attribute) (slash : Bool) (ph : BuilderMode) → TakesChildren ph → may_stand n head (Some html) ≡ true → start_inside (insertion_mode_of ph) n attributes slash (state_of (parts ph)) ≡ stepped_after_events (head_opened ph) (opened n attributes (state_of (parts (InHead false None))))
   child_step n attributes slash Initial t stands = absurd t
   child_step n attributes slash BeforeHtml t stands = (rw stands refl) ∙ nested (start html false [] ∷ []) (start head false [] ∷ []) (opened n attributes (state_of (parts (InHead false None))))
   child_step n attributes slash BeforeHead t stands = rw stands refl
-  child_step n attributes slash (InHead false None) t stands = (rw stands refl) ∙ sym (behind_nothing (opened n attributes (state_of (parts (InHead false None)))))
+  child_step n attributes slash (InHead false None) t stands = (rw stands refl) ∙ sym (after_nothing (opened n attributes (state_of (parts (InHead false None)))))
   child_step n attributes slash (InHead false (Some text)) t stands = absurd t
   child_step n attributes slash (InHead true inside) t stands = absurd t
   child_step n attributes slash AfterHead t stands = absurd t
@@ -260,7 +260,7 @@ module _ (p : Parts) (attributes : List Attribute) (here : Bool) (at : p.inserti
   text_done text v is =
       at_its_mode (λ q. IsDone (opened (text_name text) attributes (state_of q)) q (record p { maker = v; insertion_mode = InHead here (Some text) })) p (InHead here None) at
       (any_done _ (start (text_name text) false attributes ∷ []) (record (state_of p) { insertion_mode = steps.in_head; path = inside_head here (Some text); drops_line_feed = false }) (record p { insertion_mode = InHead here None }) (record p { maker = v; insertion_mode = InHead here (Some text) })
-      (text_opened text) here_kept refl (ap (λ d. let st : Construction = record { insertion_mode = steps.in_head; path = inside_head here (Some text); drops_line_feed = d; behind_body = p.behind_body.items; behind_html = p.behind_html.items } in st) all) refl here_kept.fresh is)
+      (text_opened text) here_kept refl (ap (λ d. let st : Construction = record { insertion_mode = steps.in_head; path = inside_head here (Some text); drops_line_feed = d; comments_after_body = p.comments_after_body.items; comments_after_html = p.comments_after_html.items } in st) all) refl here_kept.fresh is)
 
   void_opened : (n : List ℕ) → is_void n ≡ true → opened n attributes (state_of (record p { insertion_mode = InHead here None })) ≡ went (start n false attributes ∷ end n false ∷ []) (state_of (record p { insertion_mode = InHead here None }))
   void_opened n void = rw void refl
@@ -293,7 +293,7 @@ module _ (p : Parts) (attributes : List Attribute) (at : p.insertion_mode ≡ In
   noscript_done v is =
       at_its_mode (λ q. IsDone (opened noscript attributes (state_of q)) q (record p { maker = v; insertion_mode = InHead true None })) p (InHead false None) at
       (any_done _ (start noscript false attributes ∷ []) (record (state_of p) { insertion_mode = steps.in_head; path = under_noscript true; drops_line_feed = false }) (record p { insertion_mode = InHead false None }) (record p { maker = v; insertion_mode = InHead true None })
-      noscript_opened (kept_at p (InHead false None) at kept) refl (ap (λ d. let st : Construction = record { insertion_mode = steps.in_head; path = under_noscript true; drops_line_feed = d; behind_body = p.behind_body.items; behind_html = p.behind_html.items } in st) all) refl (kept_at p (InHead false None) at kept).fresh is)
+      noscript_opened (kept_at p (InHead false None) at kept) refl (ap (λ d. let st : Construction = record { insertion_mode = steps.in_head; path = under_noscript true; drops_line_feed = d; comments_after_body = p.comments_after_body.items; comments_after_html = p.comments_after_html.items } in st) all) refl (kept_at p (InHead false None) at kept).fresh is)
 
 -- ---- In noscript in head
 

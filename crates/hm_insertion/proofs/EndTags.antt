@@ -9,15 +9,15 @@ use Rattle.hm_base.specs.declared.rules.Rule.TheVariants.{StrayEnd, NotCurrent, 
 use Rattle.hm_elements.specs.Names.{is_among, html, head, body, script}
 use Rattle.hm_elements.specs.Tables.{roots, is_root, is_raw, is_rcdata, raw_names, rcdata_names, holds_text}
 use Rattle.hm_elements.specs.Nesting.{end_rows, ends_with}
-use Rattle.hm_elements.specs.Paths.{html_element, is_in_svg, is_in_text, is_open, front, behind, falls_to}
+use Rattle.hm_elements.specs.Paths.{html_element, is_in_svg, is_in_text, is_open, front, rest_after, is_closed_by_end_of}
 use Rattle.hm_elements.proofs.TableTools.{entry_passes, eq_self, same_bytes}
-use Rattle.hm_settle.specs.Moves.{Moves, moves, refuses, end_on, ends_nothing, end_moves}
-use Rattle.hm_settle.specs.Answers as answers
-use Rattle.hm_settle.specs.Answers.{IsMoved}
-use Rattle.hm_settle.specs.declared.moves.Moves as plain
-use Rattle.hm_settle.specs.declared.moves.SettleFault.{SettleFault}
-use Rattle.hm_settle.specs.declared.moves.SettleFault.TheVariants as settle
-use Rattle.hm_settle.proofs.Shapes.{IsEndOn, end_means}
+use Rattle.hm_open_elements.specs.Moves.{Moves, moves, refuses, end_on, ends_nothing, end_moves}
+use Rattle.hm_open_elements.specs.Answers as answers
+use Rattle.hm_open_elements.specs.Answers.{IsMoved}
+use Rattle.hm_open_elements.specs.declared.moves.Moves as plain
+use Rattle.hm_open_elements.specs.declared.moves.SettleFault.{SettleFault}
+use Rattle.hm_open_elements.specs.declared.moves.SettleFault.TheVariants as settle
+use Rattle.hm_open_elements.proofs.Shapes.{IsEndOn, end_means}
 use Rattle.hm_construction_laws.specs.Steps as steps
 use Rattle.hm_construction_laws.specs.Steps.{Construction, Stepped, went, stops, step_end, end_current, after_end_moves, end_event}
 use Rattle.hm_insertion.specs.Building.{IsRefused, of_settle}
@@ -93,7 +93,7 @@ ends_within p n answer after in_body kept moved =
 -- a fault of the open elements is the rule of the step
 pub settle_refused : (fault : SettleFault) (does : Moves) (step : Moves → Stepped) → ((rule : Rule) → step (refuses rule) ≡ stops rule 0) → ((rule : Rule) → fault ≡ settle.Rule rule → does ≡ refuses rule) → IsRefused (step does) (of_settle fault)
 settle_refused (settle.Rule rule) does step is means = ap step (means rule refl) ∙ is rule
-settle_refused settle.Memory does step is means = tt
+settle_refused settle.OutOfMemory does step is means = tt
 
 -- ---- The innermost element alone
 
@@ -187,14 +187,14 @@ root_is_refused n st (e ∷ path) root h k is = by (bytes_eq e.name n) other is
     by true e' k' = absurd (cc)
     by false e' k' = rw k' refl
 
-front_none : (n : List ℕ) (e : Element) (path : List Element) → falls_to n e ≡ false → (front (falls_to n) (e ∷ path) ≡ []) × (behind (falls_to n) (e ∷ path) ≡ e ∷ path)
+front_none : (n : List ℕ) (e : Element) (path : List Element) → is_closed_by_end_of n e ≡ false → (front (is_closed_by_end_of n) (e ∷ path) ≡ []) × (rest_after (is_closed_by_end_of n) (e ∷ path) ≡ e ∷ path)
 front_none n e path h = (rw h refl, rw h refl)
 
-text_alone : (n : List ℕ) (path : List Element) → is_in_text path ≡ true → end_on n (front (falls_to n) path) (behind (falls_to n) path) (is_open n path) ≡ end_on n [] path (is_open n path)
+text_alone : (n : List ℕ) (path : List Element) → is_in_text path ≡ true → end_on n (front (is_closed_by_end_of n) path) (rest_after (is_closed_by_end_of n) path) (is_open n path) ≡ end_on n [] path (is_open n path)
 text_alone n [] h = absurd (cc)
 text_alone n (e ∷ path) h =
     let text = and_parts (not e.foreign) (holds_text e.name) h in
-    let stays : falls_to n e ≡ false = rw (text_ends_alone e.name n text.1) (no_and (not (bytes_eq e.name n))) in
+    let stays : is_closed_by_end_of n e ≡ false = rw (text_ends_alone e.name n text.1) (no_and (not (bytes_eq e.name n))) in
     rw ((front_none n e path stays).0, (front_none n e path stays).1) refl
   where
     no_and : (b : Bool) → b && false ≡ false
@@ -206,7 +206,7 @@ pub moves_alone : (n : List ℕ) (path : List Element) → is_in_svg path || is_
 unfolding end_moves
 moves_alone n path h = by (is_in_svg path) h
   where
-    by : (b : Bool) → b || is_in_text path ≡ true → cond b (end_on n [] path (is_open n path)) (end_on n (front (falls_to n) path) (behind (falls_to n) path) (is_open n path)) ≡ end_on n [] path (is_open n path)
+    by : (b : Bool) → b || is_in_text path ≡ true → cond b (end_on n [] path (is_open n path)) (end_on n (front (is_closed_by_end_of n) path) (rest_after (is_closed_by_end_of n) path) (is_open n path)) ≡ end_on n [] path (is_open n path)
     by true k = refl
     by false k = text_alone n path k
 

@@ -1,7 +1,7 @@
 -- The ends of the innermost elements, appended to a walk one by one.
 use Rattle.std.proofs.Common.{◌≡◌, ℕ, ◌+◌, ◌<◌, ◌≤◌, List, [], ◌∷◌, ◌++◌, map, length, take, drop, sym, ap, ◌∙◌, refl, arith, append-nil, append_assoc, length-drop, add-one, drop-cons, get_or, false}
 use Rattle.std.proofs.lemmas.List.{take_more, map-append}
-use Rattle.hm_base.specs.Walks.{Event, Element, path_behind, path_after}
+use Rattle.hm_base.specs.Walks.{Event, Element, path_after_event, path_after}
 use Rattle.hm_construction_laws.specs.Steps.{end_event}
 use Rattle.hm_tree.specs.Trees.{end_of}
 use Rattle.hm_tree.proofs.WalkLemmas.{path_after-push}
@@ -27,7 +27,7 @@ one_end w now next path count so_far h is =
       walk =
           ends ∙ ap (λ v. v ++ end_event e ∷ []) so_far.walk ∙ append_assoc w (map end_event (take count path)) (end_event e ∷ [])
           ∙ ap (λ v. w ++ v) (sym (ap (map end_event) (take_more path count no_element h) ∙ map-append end_event (take count path) (e ∷ [])));
-      open_still = ap (path_after []) ends ∙ path_after-push [] now (end_event e) ∙ ap (λ p. path_behind p (end_event e)) open_now;
+      open_still = ap (path_after []) ends ∙ path_after-push [] now (end_event e) ∙ ap (λ p. path_after_event p (end_event e)) open_now;
       within = omega arith;
     }
 

@@ -1,7 +1,7 @@
 -- Events appended to a walk.
 use Rattle.std.proofs.Common.{◌≡◌, ℕ, ◌+◌, ◌≤◌, Bool, true, false, not, List, [], ◌∷◌, ◌++◌, length, sym, ap, subst, ◌∙◌, refl, arith, length-append, append_assoc, append-nil}
 use Rattle.std.proofs.lemmas.Bool.{and_parts}
-use Rattle.hm_base.specs.Walks.{Event, doctype, start, text, comment, end, Element, path_behind, path_after, walk_size, with_text, text_before, pushed, pushes, begins_text}
+use Rattle.hm_base.specs.Walks.{Event, doctype, start, text, comment, end, Element, path_after_event, path_after, walk_size, with_text, text_before, pushed, pushes, begins_text}
 use Rattle.hm_elements.specs.Paths.{is_in_raw}
 use Rattle.hm_tree.specs.Trees.{HasRoom, last_agrees, agrees}
 use Rattle.hm_tree.specs.Rows.{is_text}
@@ -11,7 +11,7 @@ use Rattle.hm_insertion.specs.Inside.{is_apart, each_byte, has_no_text, IsWalkTo
 
 pub path_after-append : (path : List Element) (w v : List Event) → path_after path (w ++ v) ≡ path_after (path_after path w) v
 path_after-append path [] v = refl
-path_after-append path (e ∷ w) v = path_after-append (path_behind path e) w v
+path_after-append path (e ∷ w) v = path_after-append (path_after_event path e) w v
 
 pub walk_size-append : (w v : List Event) → walk_size (w ++ v) ≡ walk_size w + walk_size v
 walk_size-append [] v = omega arith

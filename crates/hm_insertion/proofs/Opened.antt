@@ -4,23 +4,23 @@ use Rattle.std.proofs.lemmas.Bool.{and_parts, and_from}
 use Rattle.hm_base.specs.Walks.{Attribute, Event, start, end, Element, path_after}
 use Rattle.hm_elements.specs.Names.{is_among, html, head, body}
 use Rattle.hm_elements.specs.Tables.{is_void, is_root, roots, is_svg_name, svg_names, is_refused, holds_svg_text}
-use Rattle.hm_elements.specs.Paths.{outer, current, is_in_svg, front, behind, yields_to}
+use Rattle.hm_elements.specs.Paths.{outer, current, is_in_svg, front, rest_after, is_closed_by_start_of}
 use Rattle.hm_elements.proofs.TableTools.{eq_self, entry_passes}
 use Rattle.hm_tree.specs.Trees.{HasRoom, end_of}
-use Rattle.hm_settle.specs.Moves.{moves, refuses, element, start_moves, end_moves, is_void_open, without_void, svg_start_moves, html_start_moves, start_on, opens as svg_opens}
-use Rattle.hm_settle.specs.Answers.{IsStarted, IsMoved, elements_of}
-use Rattle.hm_settle.specs.Plans.{opens_as_svg}
-use Rattle.hm_settle.specs.declared.moves.Moves as plain
+use Rattle.hm_open_elements.specs.Moves.{moves, refuses, element, start_moves, end_moves, is_void_open, without_void, svg_start_moves, html_start_moves, start_on, opens as svg_opens}
+use Rattle.hm_open_elements.specs.Answers.{IsStarted, IsMoved, elements_of}
+use Rattle.hm_open_elements.specs.Plans.{opens_as_svg}
+use Rattle.hm_open_elements.specs.declared.moves.Moves as plain
 use Rattle.hm_base.specs.declared.rules.Rule.{Rule}
 use Rattle.hm_base.specs.declared.rules.Rule.TheVariants.{ForeignName, WrongParent, RefusedName, SecondRoot}
-use Rattle.hm_settle.specs.declared.moves.SettleFault.{SettleFault}
-use Rattle.hm_settle.specs.declared.moves.SettleFault.TheVariants as settle
-use Rattle.hm_settle.proofs.Shapes.{IsStartOn, start_means}
+use Rattle.hm_open_elements.specs.declared.moves.SettleFault.{SettleFault}
+use Rattle.hm_open_elements.specs.declared.moves.SettleFault.TheVariants as settle
+use Rattle.hm_open_elements.proofs.Shapes.{IsStartOn, start_means}
 use Rattle.hm_tree.specs.Rows.{is_text}
-use Rattle.hm_construction_laws.specs.Steps.{Construction, Stepped, went, stops, behind_events, end_event, start_event, starts, closes_at_once, drops_behind, entered, after_moves, start_in_body, reach_body, under_html, under_head, under_body}
+use Rattle.hm_construction_laws.specs.Steps.{Construction, Stepped, went, stops, stepped_after_events, end_event, start_event, starts, closes_at_once, drops_after, entered, after_moves, start_in_body, reach_body, under_html, under_head, under_body}
 use Rattle.std.proofs.Math.Seq.{take-append_seam}
-use Rattle.hm_settle.specs.declared.moves.Made.{Made}
-use Rattle.hm_settle.specs.declared.moves.Made.TheVariants.{Nothing, Section, SectionAndRow, Row, Colgroup}
+use Rattle.hm_open_elements.specs.declared.moves.Made.{Made}
+use Rattle.hm_open_elements.specs.declared.moves.Made.TheVariants.{Nothing, Section, SectionAndRow, Row, Colgroup}
 use Rattle.hm_insertion.specs.Building.{Fits, IsRefused, of_settle}
 use Rattle.hm_insertion.specs.Inside.{insertion_mode_of, open_path, state_of, at_state, has_no_text, has_no_svg_root, missing, body_path, IsWalkTo, IsKept, IsDone, IsFresh, CanReach, IsOpened, IsEntered}
 use Rattle.hm_insertion.specs.declared.insertion.BuilderMode.{BuilderMode}
@@ -28,34 +28,34 @@ use Rattle.hm_insertion.specs.declared.insertion.BuilderMode.TheVariants.{Initia
 use Rattle.hm_insertion.specs.declared.parts.Parts.{Parts}
 use Rattle.hm_insertion.proofs.Events.{path_after-append, walk_any, HasRoom-front, grown_tags}
 use Rattle.hm_insertion.proofs.PlainTexts.{plain_state, done_by}
-use Rattle.hm_insertion.proofs.Texts.{behind_nothing}
+use Rattle.hm_insertion.proofs.Texts.{after_nothing}
 use Rattle.hm_insertion.proofs.TextWalks.{missing_has_no_text}
 use Rattle.hm_insertion.proofs.EndTags.{ends_are_tags, ends_lead, outer_no_root, moves_alone}
 
 -- ---- All that is missing up to body is made
 
 module _ (path : List Element) (inner last : List (List ℕ)) where
-  pub reach_went : (ph : BuilderMode) (more : Construction → Stepped) → CanReach ph → reach_body (insertion_mode_of ph) more (at_state ph (open_path ph path) inner last) ≡ behind_events (missing ph) (more (at_state InBody (body_path ph path) inner last))
+  pub reach_went : (ph : BuilderMode) (more : Construction → Stepped) → CanReach ph → reach_body (insertion_mode_of ph) more (at_state ph (open_path ph path) inner last) ≡ stepped_after_events (missing ph) (more (at_state InBody (body_path ph path) inner last))
   reach_went Initial more r = absurd r
   reach_went BeforeHtml more r = nested (more (at_state InBody under_body inner last))
     where
-      nested : (s : Stepped) → behind_events (start html false [] ∷ []) (behind_events (start head false [] ∷ []) (behind_events (end head false ∷ []) (behind_events (start body false [] ∷ []) s))) ≡ behind_events (missing BeforeHtml) s
+      nested : (s : Stepped) → stepped_after_events (start html false [] ∷ []) (stepped_after_events (start head false [] ∷ []) (stepped_after_events (end head false ∷ []) (stepped_after_events (start body false [] ∷ []) s))) ≡ stepped_after_events (missing BeforeHtml) s
       nested (went es st) = refl
       nested (stops rule n) = refl
   reach_went BeforeHead more r = nested (more (at_state InBody under_body inner last))
     where
-      nested : (s : Stepped) → behind_events (start head false [] ∷ []) (behind_events (end head false ∷ []) (behind_events (start body false [] ∷ []) s)) ≡ behind_events (missing BeforeHead) s
+      nested : (s : Stepped) → stepped_after_events (start head false [] ∷ []) (stepped_after_events (end head false ∷ []) (stepped_after_events (start body false [] ∷ []) s)) ≡ stepped_after_events (missing BeforeHead) s
       nested (went es st) = refl
       nested (stops rule n) = refl
   reach_went (InHead false None) more r = nested (more (at_state InBody under_body inner last))
     where
-      nested : (s : Stepped) → behind_events (end head false ∷ []) (behind_events (start body false [] ∷ []) s) ≡ behind_events (missing (InHead false None)) s
+      nested : (s : Stepped) → stepped_after_events (end head false ∷ []) (stepped_after_events (start body false [] ∷ []) s) ≡ stepped_after_events (missing (InHead false None)) s
       nested (went es st) = refl
       nested (stops rule n) = refl
   reach_went (InHead false (Some text)) more r = absurd r
   reach_went (InHead true inside) more r = absurd r
   reach_went AfterHead more r = refl
-  reach_went InBody more r = sym (behind_nothing (more (at_state InBody path inner last)))
+  reach_went InBody more r = sym (after_nothing (more (at_state InBody path inner last)))
   reach_went PastBody more r = absurd r
   reach_went AfterHtml more r = absurd r
 
@@ -166,7 +166,7 @@ module _ (n : List ℕ) (foreign : Bool) (p : Parts) (o : IsOpened n foreign p) 
       (outer_no_root (element n foreign ∷ []) (outer (path_after [] p.maker)) (subst (λ x. has_no_svg_root x ≡ true) o.leads o.roots))
 
   pub closed_entered : (slash : Bool) (q : Parts) → cond foreign slash (is_void n) ≡ true → q.insertion_mode ≡ InBody → q.path ≡ outer (path_after [] p.maker) → q.maker ≡ p.maker ++ end_of (path_after [] p.maker) → q.drops_line_feed ≡ false
-      → q.behind_body ≡ p.behind_body → q.behind_html ≡ p.behind_html → IsEntered slash p q
+      → q.comments_after_body ≡ p.comments_after_body → q.comments_after_html ≡ p.comments_after_html → IsEntered slash p q
   closed_entered slash q closes insertion_mode path walk drops inner last =
       let c : closes_at_once slash (path_after [] p.maker) ≡ true = closes_by slash ∙ closes in
       record {
@@ -204,9 +204,9 @@ svg_moved n path rest after answer is moved =
     let same : moves moved.closed (elements_of answer.made) after ≡ moves (element n true ∷ []) [] rest = sym moved.does_move ∙ svg_ends n path rest is in
     cc
 
-pub svg_not_refused : (n : List ℕ) (path rest : List Element) (fault : SettleFault) → path ≡ element n true ∷ rest → ((rule : Rule) → fault ≡ settle.Rule rule → end_moves n path ≡ refuses rule) → (fault ≡ settle.Memory → ⊥) → ⊥
+pub svg_not_refused : (n : List ℕ) (path rest : List Element) (fault : SettleFault) → path ≡ element n true ∷ rest → ((rule : Rule) → fault ≡ settle.Rule rule → end_moves n path ≡ refuses rule) → (fault ≡ settle.OutOfMemory → ⊥) → ⊥
 svg_not_refused n path rest (settle.Rule rule) is means no_memory = let no : refuses rule ≡ moves (element n true ∷ []) [] rest = sym (means rule refl) ∙ svg_ends n path rest is in cc
-svg_not_refused n path rest settle.Memory is means no_memory = no_memory refl
+svg_not_refused n path rest settle.OutOfMemory is means no_memory = no_memory refl
 
 pub svg_no_root : (n : List ℕ) (path rest : List Element) → path ≡ element n true ∷ rest → has_no_svg_root path ≡ true → is_root n ≡ false
 svg_no_root n path rest is roots = negate (is_root n) (and_parts (not (is_root n)) (has_no_svg_root rest) (subst (λ x. has_no_svg_root x ≡ true) is roots)).0
@@ -223,18 +223,18 @@ room_made w es fs gs room =
 -- ---- The whole step
 
 module _ (p : Parts) (n : List ℕ) (attributes : List Attribute) (slash : Bool) (r : CanReach p.insertion_mode) (kept : IsKept p) (all : p.drops_line_feed ≡ false) where
-  pub body_step : reach_body (insertion_mode_of p.insertion_mode) (start_in_body n attributes slash) (state_of p) ≡ behind_events (missing p.insertion_mode) (after_moves attributes slash (at_state InBody p.path p.behind_body.items p.behind_html.items) (start_moves n p.path))
+  pub body_step : reach_body (insertion_mode_of p.insertion_mode) (start_in_body n attributes slash) (state_of p) ≡ stepped_after_events (missing p.insertion_mode) (after_moves attributes slash (at_state InBody p.path p.comments_after_body.items p.comments_after_html.items) (start_moves n p.path))
   body_step =
       ap (reach_body (insertion_mode_of p.insertion_mode) (start_in_body n attributes slash)) (plain_state p all)
-      ∙ reach_went p.path p.behind_body.items p.behind_html.items p.insertion_mode (start_in_body n attributes slash) r
-      ∙ ap (λ x. behind_events (missing p.insertion_mode) (start_in_body n attributes slash (at_state InBody x p.behind_body.items p.behind_html.items))) (sym (reach_fresh p r kept).0)
+      ∙ reach_went p.path p.comments_after_body.items p.comments_after_html.items p.insertion_mode (start_in_body n attributes slash) r
+      ∙ ap (λ x. stepped_after_events (missing p.insertion_mode) (start_in_body n attributes slash (at_state InBody x p.comments_after_body.items p.comments_after_html.items))) (sym (reach_fresh p r kept).0)
 
   pub body_refused : (rule : Rule) → start_moves n p.path ≡ refuses rule → reach_body (insertion_mode_of p.insertion_mode) (start_in_body n attributes slash) (state_of p) ≡ stops rule 0
   body_refused rule e = body_step ∙ (rw e refl)
 
 entered_by : (n : List ℕ) (f : Bool) (attributes : List Attribute) (slash : Bool) (path rest : List Element) (inner last : List (List ℕ)) (c : Bool) → closes_at_once slash (element n f ∷ rest) ≡ c
     → entered attributes slash (at_state InBody path inner last) (element n f ∷ rest)
-    ≡ went (start n f attributes ∷ cond c (end n f ∷ []) []) (record { insertion_mode = insertion_mode_of InBody; path = cond c rest (element n f ∷ rest); drops_line_feed = cond c false (drops_behind (element n f ∷ rest)); behind_body = inner; behind_html = last })
+    ≡ went (start n f attributes ∷ cond c (end n f ∷ []) []) (record { insertion_mode = insertion_mode_of InBody; path = cond c rest (element n f ∷ rest); drops_line_feed = cond c false (drops_after (element n f ∷ rest)); comments_after_body = inner; comments_after_html = last })
 entered_by n f attributes slash path rest inner last true e = rw e refl
 entered_by n f attributes slash path rest inner last false e = rw e refl
 
@@ -259,7 +259,7 @@ opened_no_root n path closed made after h = by (is_in_svg path) h
     in_svg true e k = not_true (is_root n) (svg_name_no_root n e)
     in_svg false e k = absurd (cc)
 
-    in_html : (a b : Bool) → is_root n ≡ b → cond a (refuses RefusedName) (cond b (refuses SecondRoot) (start_on n (front (yields_to n) path) (behind (yields_to n) path))) ≡ moves closed made after → is_root n ≡ false
+    in_html : (a b : Bool) → is_root n ≡ b → cond a (refuses RefusedName) (cond b (refuses SecondRoot) (start_on n (front (is_closed_by_start_of n) path) (rest_after (is_closed_by_start_of n) path))) ≡ moves closed made after → is_root n ≡ false
     in_html true b e k = absurd (cc)
     in_html false true e k = absurd (cc)
     in_html false false e k = e
@@ -286,8 +286,8 @@ is_opened n f q there after insertion_mode path drops walk after_is roots leads 
   all = drops;
 }
 
-entered_state : (slash : Bool) (q new : Parts) (there : List Element) (inner last : List (List ℕ)) → path_after [] q.maker ≡ there → IsEntered slash q new → q.behind_body.items ≡ inner → q.behind_html.items ≡ last
-    → state_of new ≡ record { insertion_mode = insertion_mode_of InBody; path = cond (closes_at_once slash there) (outer there) there; drops_line_feed = cond (closes_at_once slash there) false (drops_behind there); behind_body = inner; behind_html = last }
+entered_state : (slash : Bool) (q new : Parts) (there : List Element) (inner last : List (List ℕ)) → path_after [] q.maker ≡ there → IsEntered slash q new → q.comments_after_body.items ≡ inner → q.comments_after_html.items ≡ last
+    → state_of new ≡ record { insertion_mode = insertion_mode_of InBody; path = cond (closes_at_once slash there) (outer there) there; drops_line_feed = cond (closes_at_once slash there) false (drops_after there); comments_after_body = inner; comments_after_html = last }
 entered_state slash q new there inner last leads e inner_is last_is =
     rw (e.insertion_mode, e.path, e.drops, e.inner, e.last, leads, inner_is, last_is) refl
 
@@ -298,7 +298,7 @@ pub record BodyStart (p : Parts) (n : List ℕ) (attributes : List Attribute) (s
   pub room : HasRoom ((p.maker ++ missing p.insertion_mode) ++ ((map end_event (take answer.closes (path_after [] (p.maker ++ missing p.insertion_mode))) ++ starts (elements_of answer.made)) ++ start n (opens_as_svg n p.path) attributes ∷ []))
   pub opened : (q : Parts) → q.insertion_mode ≡ InBody → q.path ≡ after → q.drops_line_feed ≡ false
       → q.maker ≡ (p.maker ++ missing p.insertion_mode) ++ ((map end_event (take answer.closes (path_after [] (p.maker ++ missing p.insertion_mode))) ++ starts (elements_of answer.made)) ++ start n (opens_as_svg n p.path) attributes ∷ []) → IsOpened n (opens_as_svg n p.path) q
-  pub done : (q new : Parts) → q.behind_body.items ≡ p.behind_body.items → q.behind_html.items ≡ p.behind_html.items
+  pub done : (q new : Parts) → q.comments_after_body.items ≡ p.comments_after_body.items → q.comments_after_html.items ≡ p.comments_after_html.items
       → q.maker ≡ (p.maker ++ missing p.insertion_mode) ++ ((map end_event (take answer.closes (path_after [] (p.maker ++ missing p.insertion_mode))) ++ starts (elements_of answer.made)) ++ start n (opens_as_svg n p.path) attributes ∷ [])
       → IsEntered slash q new → IsDone (reach_body (insertion_mode_of p.insertion_mode) (start_in_body n attributes slash) (state_of p)) p new
 
@@ -317,8 +317,8 @@ pub body_start : (p : Parts) (n : List ℕ) (attributes : List Attribute) (slash
 body_start p n attributes slash answer after r kept all started root fits =
     let f = opens_as_svg n p.path in
     let m = missing p.insertion_mode in
-    let inner = p.behind_body.items in
-    let last = p.behind_html.items in
+    let inner = p.comments_after_body.items in
+    let last = p.comments_after_html.items in
     let made = elements_of answer.made in
     let o : Opens n p.path after attributes slash answer = opens n p.path after attributes slash answer started in
     let fresh = reach_fresh p r kept in
@@ -329,11 +329,11 @@ body_start p n attributes slash answer after r kept all started root fits =
     let there : List Element = element n f ∷ (made ++ o.left) in
     let c = closes_at_once slash there in
     let x : List Event = cond c (end n f ∷ []) [] in
-    let st : Construction = record { insertion_mode = insertion_mode_of InBody; path = cond c (made ++ o.left) there; drops_line_feed = cond c false (drops_behind there); behind_body = inner; behind_html = last } in
+    let st : Construction = record { insertion_mode = insertion_mode_of InBody; path = cond c (made ++ o.left) there; drops_line_feed = cond c false (drops_after there); comments_after_body = inner; comments_after_html = last } in
     let step : reach_body (insertion_mode_of p.insertion_mode) (start_in_body n attributes slash) (state_of p) ≡ went (m ++ (es ++ (start n f attributes ∷ x))) st =
     body_step p n attributes slash r kept all
-    ∙ ap (λ y. behind_events m (after_moves attributes slash (at_state InBody p.path inner last) y)) o.does_move
-    ∙ ap (λ y. behind_events m (behind_events es y)) (entered_by n f attributes slash p.path (made ++ o.left) inner last c refl) in
+    ∙ ap (λ y. stepped_after_events m (after_moves attributes slash (at_state InBody p.path inner last) y)) o.does_move
+    ∙ ap (λ y. stepped_after_events m (stepped_after_events es y)) (entered_by n f attributes slash p.path (made ++ o.left) inner last c refl) in
     let whole : HasRoom (p.maker ++ (m ++ (es ++ (start n f attributes ∷ x)))) = subst (λ s. Fits s p.maker) step fits in
     let two : HasRoom ((p.maker ++ m) ++ (es ++ (start n f attributes ∷ x))) = subst HasRoom (sym (append_assoc p.maker m (es ++ (start n f attributes ∷ x)))) whole in
     let three : HasRoom (((p.maker ++ m) ++ (es ++ one)) ++ x) =
@@ -362,4 +362,4 @@ body_start p n attributes slash answer after r kept all started root fits =
 pub refused_start : (p : Parts) (n : List ℕ) (attributes : List Attribute) (slash : Bool) → CanReach p.insertion_mode → IsKept p → p.drops_line_feed ≡ false → (fault : SettleFault) → ((rule : Rule) → fault ≡ settle.Rule rule → start_moves n p.path ≡ refuses rule)
     → IsRefused (reach_body (insertion_mode_of p.insertion_mode) (start_in_body n attributes slash) (state_of p)) (of_settle fault)
 refused_start p n attributes slash r kept all (settle.Rule rule) means = body_refused p n attributes slash r kept all rule (means rule refl)
-refused_start p n attributes slash r kept all settle.Memory means = tt
+refused_start p n attributes slash r kept all settle.OutOfMemory means = tt

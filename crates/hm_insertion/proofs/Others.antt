@@ -82,14 +82,14 @@ module _ (p : Parts) (s : List ℕ) where
   comment_done w not_body not_html kept is =
       tags_done (step (state_of p) (tokens.comment s)) (comment s) [] (no_drop (state_of p)) p (record p { maker = w; drops_line_feed = false }) (comment_went not_body not_html) kept refl refl refl kept.fresh is
 
-  pub kept_behind_body : (words : Vec (List ℕ) Global) → p.insertion_mode ≡ PastBody → IsKept p → words.items ≡ p.behind_body.items ++ s ∷ [] → IsDone (step (state_of p) (tokens.comment s)) p (record p { drops_line_feed = false; behind_body = words })
+  pub kept_after_body : (words : Vec (List ℕ) Global) → p.insertion_mode ≡ PastBody → IsKept p → words.items ≡ p.comments_after_body.items ++ s ∷ [] → IsDone (step (state_of p) (tokens.comment s)) p (record p { drops_line_feed = false; comments_after_body = words })
   unfolding step
-  kept_behind_body words e kept is =
-      silent_done (step (state_of p) (tokens.comment s)) (record (no_drop (state_of p)) { behind_body = p.behind_body.items ++ s ∷ [] }) p (record p { drops_line_feed = false; behind_body = words })
-      (ap (λ ph. step_comment (insertion_mode_of ph) s (no_drop (state_of p))) e) kept (ap (λ x. record (no_drop (state_of p)) { behind_body = x }) is) refl kept.fresh refl
+  kept_after_body words e kept is =
+      silent_done (step (state_of p) (tokens.comment s)) (record (no_drop (state_of p)) { comments_after_body = p.comments_after_body.items ++ s ∷ [] }) p (record p { drops_line_feed = false; comments_after_body = words })
+      (ap (λ ph. step_comment (insertion_mode_of ph) s (no_drop (state_of p))) e) kept (ap (λ x. record (no_drop (state_of p)) { comments_after_body = x }) is) refl kept.fresh refl
 
-  pub kept_behind_html : (words : Vec (List ℕ) Global) → p.insertion_mode ≡ AfterHtml → IsKept p → words.items ≡ p.behind_html.items ++ s ∷ [] → IsDone (step (state_of p) (tokens.comment s)) p (record p { drops_line_feed = false; behind_html = words })
+  pub kept_after_html : (words : Vec (List ℕ) Global) → p.insertion_mode ≡ AfterHtml → IsKept p → words.items ≡ p.comments_after_html.items ++ s ∷ [] → IsDone (step (state_of p) (tokens.comment s)) p (record p { drops_line_feed = false; comments_after_html = words })
   unfolding step
-  kept_behind_html words e kept is =
-      silent_done (step (state_of p) (tokens.comment s)) (record (no_drop (state_of p)) { behind_html = p.behind_html.items ++ s ∷ [] }) p (record p { drops_line_feed = false; behind_html = words })
-      (ap (λ ph. step_comment (insertion_mode_of ph) s (no_drop (state_of p))) e) kept (ap (λ x. record (no_drop (state_of p)) { behind_html = x }) is) refl kept.fresh refl
+  kept_after_html words e kept is =
+      silent_done (step (state_of p) (tokens.comment s)) (record (no_drop (state_of p)) { comments_after_html = p.comments_after_html.items ++ s ∷ [] }) p (record p { drops_line_feed = false; comments_after_html = words })
+      (ap (λ ph. step_comment (insertion_mode_of ph) s (no_drop (state_of p))) e) kept (ap (λ x. record (no_drop (state_of p)) { comments_after_html = x }) is) refl kept.fresh refl

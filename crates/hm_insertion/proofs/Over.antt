@@ -56,7 +56,7 @@ module _ (w : List Event) (path : List Element) (drops : Bool) (inner last : Vec
   at_body_closing ph st fresh h = (st, subst (λ x. step_over (state_of (parts w path drops inner last ph)) ≡ went (missing ph ++ closing x inner.items last.items) st) (sym fresh) h)
 
   abbrev pub made_state : Construction
-  made_state = record { insertion_mode = steps.after_html; path = under_body; drops_line_feed = drops; behind_body = inner.items; behind_html = last.items }
+  made_state = record { insertion_mode = steps.after_html; path = under_body; drops_line_feed = drops; comments_after_body = inner.items; comments_after_html = last.items }
 
   over_body : is_in_text path ≡ false → Over InBody (end_rule InBody path)
   over_body h = by (is_at_end path) refl
@@ -190,28 +190,28 @@ pub record Finishes (p : Parts) (tree : List Event) : Type 0 where
   pub made_room : HasRoom (p.maker ++ missing p.insertion_mode)
   pub can : CanMake p.insertion_mode (path_after [] p.maker)
   pub open_still : 0 < length (path_after [] (p.maker ++ missing p.insertion_mode))
-  pub room : HasRoom ((p.maker ++ missing p.insertion_mode) ++ closing (path_after [] (p.maker ++ missing p.insertion_mode)) p.behind_body.items p.behind_html.items)
-  pub closes : path_after [] ((p.maker ++ missing p.insertion_mode) ++ closing (path_after [] (p.maker ++ missing p.insertion_mode)) p.behind_body.items p.behind_html.items) ≡ []
-  pub built : tree ≡ (p.maker ++ missing p.insertion_mode) ++ closing (path_after [] (p.maker ++ missing p.insertion_mode)) p.behind_body.items p.behind_html.items → IsBuilt (step_over (state_of p)) p.maker tree
+  pub room : HasRoom ((p.maker ++ missing p.insertion_mode) ++ closing (path_after [] (p.maker ++ missing p.insertion_mode)) p.comments_after_body.items p.comments_after_html.items)
+  pub closes : path_after [] ((p.maker ++ missing p.insertion_mode) ++ closing (path_after [] (p.maker ++ missing p.insertion_mode)) p.comments_after_body.items p.comments_after_html.items) ≡ []
+  pub built : tree ≡ (p.maker ++ missing p.insertion_mode) ++ closing (path_after [] (p.maker ++ missing p.insertion_mode)) p.comments_after_body.items p.comments_after_html.items → IsBuilt (step_over (state_of p)) p.maker tree
 
-over_none : (p : Parts) → is_in_text (open_path p.insertion_mode p.path) ≡ false → None ≡ end_rule p.insertion_mode p.path → IsKept p → Over p.maker p.path p.drops_line_feed p.behind_body p.behind_html p.insertion_mode None
-over_none p h none kept = subst (λ o. Over p.maker p.path p.drops_line_feed p.behind_body p.behind_html p.insertion_mode o) (sym none) (over p.maker p.path p.drops_line_feed p.behind_body p.behind_html p.insertion_mode h kept.fresh)
+over_none : (p : Parts) → is_in_text (open_path p.insertion_mode p.path) ≡ false → None ≡ end_rule p.insertion_mode p.path → IsKept p → Over p.maker p.path p.drops_line_feed p.comments_after_body p.comments_after_html p.insertion_mode None
+over_none p h none kept = subst (λ o. Over p.maker p.path p.drops_line_feed p.comments_after_body p.comments_after_html p.insertion_mode o) (sym none) (over p.maker p.path p.drops_line_feed p.comments_after_body p.comments_after_html p.insertion_mode h kept.fresh)
 
 pub finishes : (p : Parts) (tree : List Event) → is_in_text (open_path p.insertion_mode p.path) ≡ false → None ≡ end_rule p.insertion_mode p.path → IsKept p → Begins p.path → Fits (step_over (state_of p)) p.maker → Finishes p tree
 finishes p tree h none kept begins fits =
     let makes = over_makes p.insertion_mode p.path p.maker h none kept.fresh kept.walk in
     let o = over_none p h none kept in
-    let end_events = closing p.path p.behind_body.items p.behind_html.items in
+    let end_events = closing p.path p.comments_after_body.items p.comments_after_html.items in
     let whole : HasRoom (p.maker ++ (missing p.insertion_mode ++ end_events)) = subst (λ s. Fits s p.maker) o.1 fits in
     let two : HasRoom ((p.maker ++ missing p.insertion_mode) ++ end_events) = subst HasRoom (sym (append_assoc p.maker (missing p.insertion_mode) end_events)) whole in
-    let same : closing (path_after [] (p.maker ++ missing p.insertion_mode)) p.behind_body.items p.behind_html.items ≡ end_events = ap (λ x. closing x p.behind_body.items p.behind_html.items) makes.1 in
+    let same : closing (path_after [] (p.maker ++ missing p.insertion_mode)) p.comments_after_body.items p.comments_after_html.items ≡ end_events = ap (λ x. closing x p.comments_after_body.items p.comments_after_html.items) makes.1 in
     record {
       made_room = HasRoom-front (p.maker ++ missing p.insertion_mode) end_events two;
       can = makes.0;
       open_still = rw makes.1 (some_path p.path begins);
       room = rw same two;
-      closes = rw same (path_after-append [] (p.maker ++ missing p.insertion_mode) end_events ∙ ap (λ x. path_after x end_events) makes.1 ∙ closing_leads p.path p.behind_body.items p.behind_html.items);
+      closes = rw same (path_after-append [] (p.maker ++ missing p.insertion_mode) end_events ∙ ap (λ x. path_after x end_events) makes.1 ∙ closing_leads p.path p.comments_after_body.items p.comments_after_html.items);
       built = λ is. subst (λ s. IsBuilt s p.maker tree) (sym o.1)
           (is ∙ ap (λ es. (p.maker ++ missing p.insertion_mode) ++ es) same ∙ append_assoc p.maker (missing p.insertion_mode) end_events
-          ∙ sym (grown_tags p.maker (missing p.insertion_mode ++ end_events) kept.walk.apart (no_text_append (missing p.insertion_mode) end_events makes.2 (closing_no_text p.path p.behind_body.items p.behind_html.items))));
+          ∙ sym (grown_tags p.maker (missing p.insertion_mode ++ end_events) kept.walk.apart (no_text_append (missing p.insertion_mode) end_events makes.2 (closing_no_text p.path p.comments_after_body.items p.comments_after_html.items))));
     }

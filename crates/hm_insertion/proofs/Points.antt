@@ -34,4 +34,4 @@ front_done s p new done = record { kept = done.kept; stepped = front_stepped s p
 
 pub front_refused : (s : Stepped) (fault : BuildFault) → IsRefused s fault → IsRefused (at_front s) (front_of fault)
 front_refused s (faults.Rule rule n) h = ap at_front h
-front_refused s faults.Memory h = tt
+front_refused s faults.OutOfMemory h = tt

@@ -5,9 +5,9 @@ use Rattle.hm_base.specs.Walks.{Attribute, Element}
 use Rattle.hm_base.specs.declared.rules.Rule.TheVariants.{NoDoctype, AfterBody, RefusedName, SecondRoot}
 use Rattle.hm_elements.specs.Names.{is_among, html, head, body}
 use Rattle.hm_elements.specs.Tables.{is_root, roots, is_refused}
-use Rattle.hm_elements.specs.Paths.{is_in_svg, front, behind, yields_to}
+use Rattle.hm_elements.specs.Paths.{is_in_svg, front, rest_after, is_closed_by_start_of}
 use Rattle.hm_elements.proofs.TableTools.{entry_passes, same_bytes}
-use Rattle.hm_settle.specs.Moves.{refuses, start_moves, svg_start_moves, start_on}
+use Rattle.hm_open_elements.specs.Moves.{refuses, start_moves, svg_start_moves, start_on}
 use Rattle.hm_tree.specs.Tokens as tokens
 use Rattle.hm_construction_laws.specs.Steps.{Construction, Stepped, stops, step, step_start, html_start, start_in_body, start_inside, after_moves, open_html, open_head, open_body, reach_body}
 use Rattle.hm_insertion.specs.BeforeBody.{IsBefore}
@@ -91,7 +91,7 @@ in_body_name n attributes slash st no_svg =
     by (is_refused n) (bytes_eq n html) (bytes_eq n head) (bytes_eq n body) (is_root n) refl (λ e. root_named n html html_root.0 e) (λ e. root_named n head html_root.1 e) (λ e. root_named n body html_root.2 e)
   where
     s : Bool → Bool → Stepped
-    s a r = after_moves attributes slash st (cond (is_in_svg st.path) (svg_start_moves n st.path) (cond a (refuses RefusedName) (cond r (refuses SecondRoot) (start_on n (front (yields_to n) st.path) (behind (yields_to n) st.path)))))
+    s a r = after_moves attributes slash st (cond (is_in_svg st.path) (svg_start_moves n st.path) (cond a (refuses RefusedName) (cond r (refuses SecondRoot) (start_on n (front (is_closed_by_start_of n) st.path) (rest_after (is_closed_by_start_of n) st.path)))))
 
     by : (a b c d r : Bool) → is_root n ≡ r → (b ≡ true → is_root n ≡ true) → (c ≡ true → is_root n ≡ true) → (d ≡ true → is_root n ≡ true)
         → cond a (stops RefusedName 0) (cond b (stops SecondRoot 0) (cond c (stops SecondRoot 0) (cond d (stops SecondRoot 0) (s a (is_root n))))) ≡ s a (is_root n)
@@ -106,10 +106,10 @@ module _ (p : Parts) (n : List ℕ) (attributes : List Attribute) (slash : Bool)
   unfolding step_start
   start_initial e = ap (λ ph. step_start n attributes slash (state_of (record p { insertion_mode = ph }))) e
 
-  pub start_behind_body : (p.insertion_mode ≡ PastBody) ⊎ (p.insertion_mode ≡ AfterHtml) → step_start n attributes slash (state_of p) ≡ stops AfterBody 0
+  pub start_after_body : (p.insertion_mode ≡ PastBody) ⊎ (p.insertion_mode ≡ AfterHtml) → step_start n attributes slash (state_of p) ≡ stops AfterBody 0
   unfolding step_start
-  start_behind_body (inl e) = ap (λ ph. step_start n attributes slash (state_of (record p { insertion_mode = ph }))) e
-  start_behind_body (inr e) = ap (λ ph. step_start n attributes slash (state_of (record p { insertion_mode = ph }))) e
+  start_after_body (inl e) = ap (λ ph. step_start n attributes slash (state_of (record p { insertion_mode = ph }))) e
+  start_after_body (inr e) = ap (λ ph. step_start n attributes slash (state_of (record p { insertion_mode = ph }))) e
 
   pub start_before : IsBefore p.insertion_mode → step_start n attributes slash (state_of p) ≡ html_start n attributes slash (state_of p)
   unfolding step_start

@@ -8,23 +8,23 @@ use Rattle.hm_base.specs.declared.rules.Rule.TheVariants.{TextHere}
 use Rattle.hm_elements.specs.Names.{is_among}
 use Rattle.hm_elements.specs.Tables.{is_raw, raw_names, rcdata_names, is_rcdata, holds_text}
 use Rattle.hm_elements.specs.Paths.{blank_parents, is_in_raw, is_in_text, is_in_blank}
-use Rattle.hm_construction_laws.specs.Steps.{Construction, Stepped, went, stops, behind_events, keep_byte, space_byte, body_byte, other_byte, step_byte, behind_bytes, then_step, step_bytes}
+use Rattle.hm_construction_laws.specs.Steps.{Construction, Stepped, went, stops, stepped_after_events, keep_byte, space_byte, body_byte, other_byte, step_byte, after_bytes, then_step, step_bytes}
 use Rattle.hm_insertion.specs.Inside.{insertion_mode_of, open_path, at_state, body_path, each_byte, missing, text_rule, keeps_space, kept_bytes}
 use Rattle.hm_insertion.specs.declared.insertion.HeadText.TheVariants.{Title, Style, Script}
 use Rattle.hm_insertion.specs.declared.insertion.BuilderMode.{BuilderMode}
 use Rattle.hm_insertion.specs.declared.insertion.BuilderMode.TheVariants.{Initial, BeforeHtml, BeforeHead, InHead, AfterHead, InBody, AfterBody as PastBody, AfterHtml}
 
-pub behind_behind : (es fs : List Event) (s : Stepped) → behind_events es (behind_events fs s) ≡ behind_events (es ++ fs) s
-behind_behind es fs (went gs st) = ap (λ x. went x st) (sym (append_assoc es fs gs))
-behind_behind es fs (stops rule n) = refl
+pub stepped_after_both : (es fs : List Event) (s : Stepped) → stepped_after_events es (stepped_after_events fs s) ≡ stepped_after_events (es ++ fs) s
+stepped_after_both es fs (went gs st) = ap (λ x. went x st) (sym (append_assoc es fs gs))
+stepped_after_both es fs (stops rule n) = refl
 
-pub behind_nothing : (s : Stepped) → behind_events [] s ≡ s
-behind_nothing (went es st) = refl
-behind_nothing (stops rule n) = refl
+pub after_nothing : (s : Stepped) → stepped_after_events [] s ≡ s
+after_nothing (went es st) = refl
+after_nothing (stops rule n) = refl
 
-behind_pieces : (e : List Event) (es : List Event) (n : ℕ) (s : Stepped) → behind_events e (behind_bytes 1 (behind_events es (behind_bytes n s))) ≡ behind_events (e ++ es) (behind_bytes (suc n) s)
-behind_pieces e es n (went fs st) = ap (λ x. went x st) (sym (append_assoc e es fs))
-behind_pieces e es n (stops rule k) = ap (stops rule) (omega arith)
+after_pieces : (e : List Event) (es : List Event) (n : ℕ) (s : Stepped) → stepped_after_events e (after_bytes 1 (stepped_after_events es (after_bytes n s))) ≡ stepped_after_events (e ++ es) (after_bytes (suc n) s)
+after_pieces e es n (went fs st) = ap (λ x. went x st) (sym (append_assoc e es fs))
+after_pieces e es n (stops rule k) = ap (stops rule) (omega arith)
 
 -- the events of a byte that is kept or dropped
 abbrev pub one_kept : Bool → ℕ → Bool → List Event
@@ -35,7 +35,7 @@ one_more : (keep : Bool) (c : ℕ) (s : List ℕ) (raw : Bool) → one_kept keep
 one_more true c s raw = refl
 one_more false c s raw = refl
 
-no_bytes : (keep raw : Bool) (s : Stepped) → s ≡ behind_events (kept_bytes keep [] raw) (behind_bytes 0 s)
+no_bytes : (keep raw : Bool) (s : Stepped) → s ≡ stepped_after_events (kept_bytes keep [] raw) (after_bytes 0 s)
 no_bytes true raw (went es st) = refl
 no_bytes true raw (stops rule n) = ap (stops rule) (omega arith)
 no_bytes false raw (went es st) = refl
@@ -43,14 +43,14 @@ no_bytes false raw (stops rule n) = ap (stops rule) (omega arith)
 
 -- bytes that are all kept, or all dropped, without a change of the state
 pub bytes_pass : (p : ℕ → Bool) (keep raw : Bool) (st : Construction) → ((c : ℕ) → p c ≡ true → step_byte c st ≡ went (one_kept keep c raw) st) → (s rest : List ℕ) → all_pass p s ≡ true
-    → step_bytes (s ++ rest) st ≡ behind_events (kept_bytes keep s raw) (behind_bytes (length s) (step_bytes rest st))
+    → step_bytes (s ++ rest) st ≡ stepped_after_events (kept_bytes keep s raw) (after_bytes (length s) (step_bytes rest st))
 bytes_pass p keep raw st one [] rest all = no_bytes keep raw (step_bytes rest st)
 bytes_pass p keep raw st one (c ∷ s) rest all =
     let parts : (p c ≡ true) × (all_pass p s ≡ true) = and_parts (p c) (all_pass p s) all in
-    ap (λ x. then_step x (λ next. behind_bytes 1 (step_bytes (s ++ rest) next))) (one c parts.0)
-    ∙ ap (λ x. behind_events (one_kept keep c raw) (behind_bytes 1 x)) (bytes_pass p keep raw st one s rest parts.1)
-    ∙ behind_pieces (one_kept keep c raw) (kept_bytes keep s raw) (length s) (step_bytes rest st)
-    ∙ ap (λ x. behind_events x (behind_bytes (suc (length s)) (step_bytes rest st))) (one_more keep c s raw)
+    ap (λ x. then_step x (λ next. after_bytes 1 (step_bytes (s ++ rest) next))) (one c parts.0)
+    ∙ ap (λ x. stepped_after_events (one_kept keep c raw) (after_bytes 1 x)) (bytes_pass p keep raw st one s rest parts.1)
+    ∙ after_pieces (one_kept keep c raw) (kept_bytes keep s raw) (length s) (step_bytes rest st)
+    ∙ ap (λ x. stepped_after_events x (after_bytes (suc (length s)) (step_bytes rest st))) (one_more keep c s raw)
 
 everything_passes : (s : List ℕ) → all_pass (λ _. true) s ≡ true
 everything_passes [] = refl
@@ -106,7 +106,7 @@ module _ (path : List Element) (inner last : List (List ℕ)) where
 
   -- whitespace is dropped or stands
   pub blank_bytes : (ph : BuilderMode) (s rest : List ℕ) → is_in_text path ≡ false → all_pass is_space s ≡ true
-      → step_bytes (s ++ rest) (at_state ph path inner last) ≡ behind_events (kept_bytes (keeps_space ph) s (is_in_raw path)) (behind_bytes (length s) (step_bytes rest (at_state ph path inner last)))
+      → step_bytes (s ++ rest) (at_state ph path inner last) ≡ stepped_after_events (kept_bytes (keeps_space ph) s (is_in_raw path)) (after_bytes (length s) (step_bytes rest (at_state ph path inner last)))
   blank_bytes ph s rest h all = bytes_pass is_space (keeps_space ph) (is_in_raw path) (at_state ph path inner last) (λ c space. blank_byte ph c h space) s rest all
 
   pub only_blank_bytes : (ph : BuilderMode) (s : List ℕ) → is_in_text path ≡ false → all_pass is_space s ≡ true → step_bytes s (at_state ph path inner last) ≡ went (kept_bytes (keeps_space ph) s (is_in_raw path)) (at_state ph path inner last)
@@ -185,7 +185,7 @@ module _ (path : List Element) (inner last : List (List ℕ)) where
       body_bytes (body_path ph path) inner last rest plain.0 plain.1 ∙ ap (λ raw. went (each_byte rest raw) (at_state InBody (body_path ph path) inner last)) (not_raw (body_path ph path) plain.0)
 
   from_other : (ph : BuilderMode) (front : List Event) (n c : ℕ) (rest : List ℕ) (o : Option Rule) → is_in_text (open_path ph path) ≡ false → text_rule ph path ≡ o
-      → behind_events front (behind_bytes n (then_step (other_means c (missing ph) (at_state InBody (body_path ph path) inner last) o) (λ next. behind_bytes 1 (step_bytes rest next))))
+      → stepped_after_events front (after_bytes n (then_step (other_means c (missing ph) (at_state InBody (body_path ph path) inner last) o) (λ next. after_bytes 1 (step_bytes rest next))))
       ≡ mixed_means front n (missing ph) (c ∷ rest) (at_state InBody (body_path ph path) inner last) o
   from_other ph front n c rest (Some rule) h e = ap (stops rule) (omega arith)
   from_other ph front n c rest None h e =
@@ -198,5 +198,5 @@ module _ (path : List Element) (inner last : List (List ℕ)) where
       let st = at_state ph (open_path ph path) inner last in
       let one : step_byte c st ≡ other_means c (missing ph) (at_state InBody (body_path ph path) inner last) (text_rule ph path) = other (open_path ph path) inner last ph c h space ∙ other_is path inner last ph c h in
       blank_bytes (open_path ph path) inner last ph front (c ∷ rest) h all
-      ∙ ap (λ x. behind_events (kept_bytes (keeps_space ph) front (is_in_raw (open_path ph path))) (behind_bytes (length front) (then_step x (λ next. behind_bytes 1 (step_bytes rest next))))) one
+      ∙ ap (λ x. stepped_after_events (kept_bytes (keeps_space ph) front (is_in_raw (open_path ph path))) (after_bytes (length front) (then_step x (λ next. after_bytes 1 (step_bytes rest next))))) one
       ∙ from_other ph (kept_bytes (keeps_space ph) front (is_in_raw (open_path ph path))) (length front) c rest (text_rule ph path) h refl

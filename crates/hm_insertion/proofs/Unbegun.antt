@@ -25,7 +25,7 @@ use Rattle.hm_insertion.proofs.EndTags.{body_open, body_fresh}
 
 module _ (w : List Event) (path : List Element) (drops : Bool) (inner last : Vec (List ℕ) Global) where
   abbrev pub parts : BuilderMode → Parts
-  parts ph = record { maker = w; insertion_mode = ph; path = path; drops_line_feed = drops; behind_body = inner; behind_html = last }
+  parts ph = record { maker = w; insertion_mode = ph; path = path; drops_line_feed = drops; comments_after_body = inner; comments_after_html = last }
 
   pub head_went : (ph : BuilderMode) → IsUnbegun ph → (ph ≡ AfterHead → ⊥) → steps.end_head (insertion_mode_of ph) (state_of (parts ph)) ≡ went (head_ended ph) (record (state_of (parts ph)) { insertion_mode = steps.after_head; path = under_html })
   head_went Initial u other = absurd u

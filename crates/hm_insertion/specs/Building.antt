@@ -3,8 +3,8 @@ use Rattle.std.specs.Prelude.{◌≡◌, List, [], ◌++◌, Result, Ok, Err}
 use Rattle.hm_base.specs.Walks.{Event, pushes}
 use Rattle.hm_tree.specs.Trees.{HasRoom}
 use Rattle.hm_construction_laws.specs.Steps.{Construction, Stepped, went, stops, first_state}
-use Rattle.hm_settle.specs.declared.moves.SettleFault.{SettleFault}
-use Rattle.hm_settle.specs.declared.moves.SettleFault.TheVariants as settle
+use Rattle.hm_open_elements.specs.declared.moves.SettleFault.{SettleFault}
+use Rattle.hm_open_elements.specs.declared.moves.SettleFault.TheVariants as settle
 use Rattle.hm_insertion.specs.declared.fault.BuildFault.{BuildFault}
 use Rattle.hm_insertion.specs.declared.fault.BuildFault.TheVariants as faults
 
@@ -34,12 +34,12 @@ IsStepped (stops rule n) old new = ⊥
 -- The step is refused by the rule of the fault. Memory may be refused at any time.
 abbrev pub IsRefused : Stepped → BuildFault → Type 0
 IsRefused step (faults.Rule rule n) = step ≡ stops rule n
-IsRefused step faults.Memory = Unit {0}
+IsRefused step faults.OutOfMemory = Unit {0}
 
 -- a fault of the open elements, at the start of a token
 abbrev pub of_settle : SettleFault → BuildFault
 of_settle (settle.Rule rule) = faults.Rule rule 0
-of_settle settle.Memory = faults.Memory
+of_settle settle.OutOfMemory = faults.OutOfMemory
 
 -- the tree of the events so far and those of the last step
 abbrev pub IsBuilt : Stepped → List Event → List Event → Type 0
@@ -49,7 +49,7 @@ IsBuilt (stops rule n) w tree = ⊥
 -- the fault at the start of its token
 abbrev pub front_of : BuildFault → BuildFault
 front_of (faults.Rule rule n) = faults.Rule rule 0
-front_of faults.Memory = faults.Memory
+front_of faults.OutOfMemory = faults.OutOfMemory
 
 -- The answer to a step: it is carried out, or refused by the rule of the fault.
 abbrev pub Answers : {A : Type 0} → Stepped → Result A BuildFault → Building → Building → Type 0

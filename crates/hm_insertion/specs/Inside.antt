@@ -6,7 +6,7 @@ use Rattle.hm_base.specs.declared.rules.Rule.{Rule}
 use Rattle.hm_base.specs.declared.rules.Rule.TheVariants.{NoDoctype, AfterBody, TextHere, Unclosed}
 use Rattle.hm_elements.specs.Names.{html, head, body, noscript}
 use Rattle.hm_elements.specs.Paths.{html_element, is_in_raw, is_in_blank, outer}
-use Rattle.hm_settle.specs.Moves.{without_void}
+use Rattle.hm_open_elements.specs.Moves.{without_void}
 use Rattle.hm_tree.specs.Trees.{last_agrees, end_of}
 use Rattle.hm_tree.specs.Rows.{is_text}
 use Rattle.hm_construction_laws.specs.Steps as steps
@@ -56,7 +56,7 @@ open_path PastBody path = path
 open_path AfterHtml path = path
 
 abbrev pub state_of : Parts → Construction
-state_of p = record { insertion_mode = insertion_mode_of p.insertion_mode; path = open_path p.insertion_mode p.path; drops_line_feed = p.drops_line_feed; behind_body = p.behind_body.items; behind_html = p.behind_html.items }
+state_of p = record { insertion_mode = insertion_mode_of p.insertion_mode; path = open_path p.insertion_mode p.path; drops_line_feed = p.drops_line_feed; comments_after_body = p.comments_after_body.items; comments_after_html = p.comments_after_html.items }
 
 abbrev pub building_of : Parts → Building
 building_of p = record { state = state_of p; walk = p.maker }
@@ -153,7 +153,7 @@ body_path insertion_mode path = under_body
 
 -- a state in which no line feed is dropped
 abbrev pub at_state : BuilderMode → List Element → List (List ℕ) → List (List ℕ) → Construction
-at_state insertion_mode path inner last = record { insertion_mode = insertion_mode_of insertion_mode; path = path; drops_line_feed = false; behind_body = inner; behind_html = last }
+at_state insertion_mode path inner last = record { insertion_mode = insertion_mode_of insertion_mode; path = path; drops_line_feed = false; comments_after_body = inner; comments_after_html = last }
 
 -- a text cut where its first byte stands that isn't whitespace
 pub record IsCut (s blank rest : List ℕ) : Type 0 where
@@ -185,14 +185,14 @@ Takes step (Ok done) old new = IsDone step old new
 Takes step (Err fault) old new = IsRefused step fault
 
 -- these events, which make what is missing, are appended to the walk
-pub record IsPutBehind (es : List Event) (old new : Parts) : Type 0 where
+pub record IsPutAfter (es : List Event) (old new : Parts) : Type 0 where
   pub kept : IsKept new
   pub walk : new.maker ≡ grown old.maker es
   pub insertion_mode : new.insertion_mode ≡ InBody
   pub path : new.path ≡ body_path old.insertion_mode old.path
   pub drops : new.drops_line_feed ≡ old.drops_line_feed
-  pub inner : new.behind_body ≡ old.behind_body
-  pub last : new.behind_html ≡ old.behind_html
+  pub inner : new.comments_after_body ≡ old.comments_after_body
+  pub last : new.comments_after_html ≡ old.comments_after_html
 
 -- the insertion modes in which the open elements are those of the body's path
 abbrev pub HasBodyPath : BuilderMode → Type 0
@@ -265,6 +265,6 @@ pub record IsEntered (slash : Bool) (old new : Parts) : Type 0 where
   pub insertion_mode : new.insertion_mode ≡ InBody
   pub walk : new.maker ≡ old.maker ++ (if steps.closes_at_once slash (path_after [] old.maker) then end_of (path_after [] old.maker) else [])
   pub path : new.path ≡ (if steps.closes_at_once slash (path_after [] old.maker) then outer (path_after [] old.maker) else path_after [] old.maker)
-  pub drops : new.drops_line_feed ≡ (if steps.closes_at_once slash (path_after [] old.maker) then false else steps.drops_behind (path_after [] old.maker))
-  pub inner : new.behind_body ≡ old.behind_body
-  pub last : new.behind_html ≡ old.behind_html
+  pub drops : new.drops_line_feed ≡ (if steps.closes_at_once slash (path_after [] old.maker) then false else steps.drops_after (path_after [] old.maker))
+  pub inner : new.comments_after_body ≡ old.comments_after_body
+  pub last : new.comments_after_html ≡ old.comments_after_html

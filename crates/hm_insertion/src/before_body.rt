@@ -13,9 +13,9 @@ ghost use Rattle.hm_insertion.specs.Inside.{IsDone, IsKept, IsUnbegun, Takes, in
 
 use crate::BuildFault;
 use crate::insertion::{BuilderMode, HeadText};
-use crate::make::close_made_head;
+use crate::make::close_missing_head;
 use crate::parts::Parts;
-use hm_base::{Memory, Rule};
+use hm_base::{OutOfMemory, Rule};
 use hm_elements::{Named, is_metadata, may_stand};
 use hm_tree::{Attrs, Maker};
 use std::alloc::Global;
@@ -68,7 +68,7 @@ impl Parts {
     {
         match self.insertion_mode {
             BuilderMode::BeforeHtml | BuilderMode::BeforeHead => {
-                make_only_html(alloc, &mut self.maker, self.insertion_mode)?;
+                open_missing_html(alloc, &mut self.maker, self.insertion_mode)?;
                 self.maker.start_from("head", false, attrs)?;
                 self.insertion_mode = BuilderMode::InHead {
                     noscript: false,
@@ -100,7 +100,7 @@ impl Parts {
         requires room { Fits (steps.open_body (insertion_mode_of self.old.insertion_mode) attrs.now (state_of self.old)) self.old.maker }
         ensures { Takes (steps.open_body (insertion_mode_of self.old.insertion_mode) attrs.now (state_of self.old)) result self.old self.new }
     {
-        close_made_head(alloc, &mut self.maker, self.insertion_mode)?;
+        close_missing_head(alloc, &mut self.maker, self.insertion_mode)?;
         self.maker.start_from("body", false, attrs)?;
         self.insertion_mode = BuilderMode::InBody;
         Ok(())
@@ -180,13 +180,13 @@ impl Parts {
     }
 
     /// Makes `html` and `head` where they are missing (#the-before-html-insertion-mode, #the-before-head-insertion-mode).
-    fn reach_head(&mut self, alloc: Global) -> Result<(), Memory>
+    fn reach_head(&mut self, alloc: Global) -> Result<(), OutOfMemory>
         requires kept { IsKept self.old }
         requires takes { TakesChildren self.old.insertion_mode }
         requires room { HasRoom (self.old.maker ++ head_opened self.old.insertion_mode) }
         ensures { OnOk result (self.new ≡ in_open_head self.old) }
     {
-        make_open_head(alloc, &mut self.maker, self.insertion_mode)?;
+        open_missing_head(alloc, &mut self.maker, self.insertion_mode)?;
         self.insertion_mode = BuilderMode::InHead {
             noscript: false,
             text: None,
@@ -195,7 +195,7 @@ impl Parts {
     }
 
     /// Starts a child of `head` (#parsing-main-inhead). A void one closes at once.
-    fn start_child(&mut self, name: &str, attrs: &Attrs) -> Result<(), Memory>
+    fn start_child(&mut self, name: &str, attrs: &Attrs) -> Result<(), OutOfMemory>
         requires kept { IsKept self.old }
         requires all { self.old.drops_line_feed ≡ false }
         requires insertion_mode { self.old.insertion_mode ≡ BuilderMode.InHead false None }
@@ -229,7 +229,7 @@ impl Parts {
     }
 
     /// Starts `noscript` in `head` (#parsing-main-inhead).
-    fn start_noscript(&mut self, attrs: &Attrs) -> Result<(), Memory>
+    fn start_noscript(&mut self, attrs: &Attrs) -> Result<(), OutOfMemory>
         requires kept { IsKept self.old }
         requires all { self.old.drops_line_feed ≡ false }
         requires insertion_mode { self.old.insertion_mode ≡ BuilderMode.InHead false None }
@@ -246,7 +246,12 @@ impl Parts {
 
     /// Starts an element that holds a text, in `head` or in `noscript` in it (#parsing-main-inhead,
     /// #parsing-main-inheadnoscript).
-    fn start_text(&mut self, noscript: bool, text: HeadText, attrs: &Attrs) -> Result<(), Memory>
+    fn start_text(
+        &mut self,
+        noscript: bool,
+        text: HeadText,
+        attrs: &Attrs,
+    ) -> Result<(), OutOfMemory>
         requires kept { IsKept self.old }
         requires all { self.old.drops_line_feed ≡ false }
         requires insertion_mode { self.old.insertion_mode ≡ BuilderMode.InHead noscript None }
@@ -262,7 +267,7 @@ impl Parts {
     }
 
     /// Starts and ends a void element, in `head` or in `noscript` in it (#parsing-main-inhead, #parsing-main-inheadnoscript).
-    fn start_void(&mut self, noscript: bool, name: &str, attrs: &Attrs) -> Result<(), Memory>
+    fn start_void(&mut self, noscript: bool, name: &str, attrs: &Attrs) -> Result<(), OutOfMemory>
         requires kept { IsKept self.old }
         requires all { self.old.drops_line_feed ≡ false }
         requires insertion_mode { self.old.insertion_mode ≡ BuilderMode.InHead noscript None }
@@ -290,11 +295,11 @@ fn has_begun(insertion_mode: BuilderMode) -> bool
 }
 
 /// Makes `html` where it is missing (#the-before-html-insertion-mode).
-fn make_only_html(
+fn open_missing_html(
     alloc: Global,
     maker: &mut Maker,
     insertion_mode: BuilderMode,
-) -> Result<(), Memory>
+) -> Result<(), OutOfMemory>
     requires { HasRoom (maker.old ++ html_opened insertion_mode) }
     ensures { OnOk result (maker.new ≡ maker.old ++ html_opened insertion_mode) }
 {
@@ -305,11 +310,11 @@ fn make_only_html(
 }
 
 /// Makes `html` and `head` where they are missing (#the-before-html-insertion-mode, #the-before-head-insertion-mode).
-fn make_open_head(
+fn open_missing_head(
     alloc: Global,
     maker: &mut Maker,
     insertion_mode: BuilderMode,
-) -> Result<(), Memory>
+) -> Result<(), OutOfMemory>
     requires { HasRoom (maker.old ++ head_opened insertion_mode) }
     ensures { OnOk result (maker.new ≡ maker.old ++ head_opened insertion_mode) }
 {

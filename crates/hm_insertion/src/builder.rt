@@ -10,8 +10,8 @@ ghost use Rattle.hm_insertion.specs.Building.{Builds, Answers, Fits, first_build
 use crate::BuildFault;
 use crate::insertion::BuilderMode;
 use crate::parts::{Parts, current, depth, is_in_svg, is_in_text};
-use hm_base::{Memory, Points};
-use hm_settle::Path;
+use hm_base::{OutOfMemory, Points};
+use hm_open_elements::Path;
 use hm_tree::{Attrs, Tree};
 use std::alloc::Global;
 use std::marker::Model;
@@ -39,7 +39,7 @@ impl Model for TreeBuilder {
 
 impl TreeBuilder {
     /// Nothing is built yet.
-    pub fn new(alloc: Global) -> Result<TreeBuilder, Memory>
+    pub fn new(alloc: Global) -> Result<TreeBuilder, OutOfMemory>
         ensures { IfOk result (λ builder. builder ≡ first_building) }
     {
         let parts = Parts {
@@ -47,8 +47,8 @@ impl TreeBuilder {
             insertion_mode: BuilderMode::Initial,
             path: Path::new(alloc)?,
             drops_line_feed: false,
-            behind_body: Vec::new(alloc),
-            behind_html: Vec::new(alloc),
+            comments_after_body: Vec::new(alloc),
+            comments_after_html: Vec::new(alloc),
         };
         Ok(TreeBuilder {
             parts,
@@ -86,8 +86,8 @@ impl TreeBuilder {
     }
 
     /// Whether body is closed, so that only whitespace, comments and `</html>` may come (#parsing-main-afterbody).
-    pub fn is_behind_body(&self) -> bool
-        ensures { result ≡ closing.is_behind_body self.now.state.insertion_mode }
+    pub fn is_after_body(&self) -> bool
+        ensures { result ≡ closing.is_after_body self.now.state.insertion_mode }
     {
         matches!(
             self.parts.insertion_mode,
@@ -102,7 +102,7 @@ impl TreeBuilder {
         ensures { Answers (step self.old.state (tokens.doctype legacy)) result self.old self.new }
     {
         if self.is_broken {
-            return Err(BuildFault::Memory);
+            return Err(BuildFault::OutOfMemory);
         }
         self.is_broken = true;
         self.parts.doctype(legacy)?;
@@ -124,7 +124,7 @@ impl TreeBuilder {
         ensures { Answers (step self.old.state (tokens.start_tag name.now attrs.now slash)) result self.old self.new }
     {
         if self.is_broken {
-            return Err(BuildFault::Memory);
+            return Err(BuildFault::OutOfMemory);
         }
         self.is_broken = true;
         self.parts.start_tag(alloc, name, attrs, slash)?;
@@ -139,7 +139,7 @@ impl TreeBuilder {
         ensures { Answers (step self.old.state (tokens.end_tag name.now)) result self.old self.new }
     {
         if self.is_broken {
-            return Err(BuildFault::Memory);
+            return Err(BuildFault::OutOfMemory);
         }
         self.is_broken = true;
         self.parts.end_tag(alloc, name)?;
@@ -155,7 +155,7 @@ impl TreeBuilder {
         ensures { Answers (step self.old.state (tokens.slice text.now)) result self.old self.new }
     {
         if self.is_broken {
-            return Err(BuildFault::Memory);
+            return Err(BuildFault::OutOfMemory);
         }
         self.is_broken = true;
         self.parts.text(alloc, text)?;
@@ -169,7 +169,7 @@ impl TreeBuilder {
         ensures { Answers (step self.old.state (tokens.comment text.now)) result self.old self.new }
     {
         if self.is_broken {
-            return Err(BuildFault::Memory);
+            return Err(BuildFault::OutOfMemory);
         }
         self.is_broken = true;
         self.parts.comment(alloc, text)?;
@@ -183,7 +183,7 @@ impl TreeBuilder {
         ensures { Answers (step self.old.state (tokens.points (points_of points))) result self.old self.new }
     {
         if self.is_broken {
-            return Err(BuildFault::Memory);
+            return Err(BuildFault::OutOfMemory);
         }
         self.is_broken = true;
         self.parts.points(alloc, points)?;
@@ -198,7 +198,7 @@ impl TreeBuilder {
     {
         let TreeBuilder { parts, is_broken } = self;
         if is_broken {
-            return Err(BuildFault::Memory);
+            return Err(BuildFault::OutOfMemory);
         }
         parts.finish(alloc)
     }

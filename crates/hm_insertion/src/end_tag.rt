@@ -3,7 +3,7 @@ ghost use Rattle.std.specs.Prelude.{◌≡◌, ◌≢◌, ◌||◌, false, true}
 ghost use Rattle.hm_construction_laws.specs.Steps as steps;
 ghost use Rattle.hm_construction_laws.specs.Steps.{after_end_moves, end_current, step, step_end};
 ghost use Rattle.hm_elements.specs.Names.{body, html};
-ghost use Rattle.hm_settle.specs.Moves.{end_moves};
+ghost use Rattle.hm_open_elements.specs.Moves.{end_moves};
 ghost use Rattle.hm_elements.specs.Paths as paths;
 ghost use Rattle.hm_tree.specs.Tokens as tokens;
 ghost use Rattle.hm_insertion.specs.Building.{Fits};
@@ -12,12 +12,12 @@ ghost use Rattle.hm_insertion.specs.Inside.{HasBodyPath, IsInner, IsKept, IsUnbe
 
 use crate::BuildFault;
 use crate::insertion::{BuilderMode, HeadText};
-use crate::make::{close_made_head, make_missing};
+use crate::make::{close_missing_head, make_missing};
 use crate::moves::end_elements;
 use crate::parts::{Parts, current_in_head, is_in_text};
 use hm_base::Rule;
 use hm_elements::same_name;
-use hm_settle::Path;
+use hm_open_elements::Path;
 use std::alloc::Global;
 
 impl Parts {
@@ -112,7 +112,7 @@ impl Parts {
         if let BuilderMode::AfterHead = self.insertion_mode {
             return Err(BuildFault::from(Rule::StrayEnd));
         }
-        close_made_head(alloc, &mut self.maker, self.insertion_mode)?;
+        close_missing_head(alloc, &mut self.maker, self.insertion_mode)?;
         self.insertion_mode = BuilderMode::AfterHead;
         Ok(())
     }
@@ -145,14 +145,14 @@ impl Parts {
             return self.end_inner(name);
         }
         match self.insertion_mode {
-            BuilderMode::AfterBody => self.end_behind_body(name),
+            BuilderMode::AfterBody => self.end_after_body(name),
             BuilderMode::AfterHtml => Err(BuildFault::from(Rule::AfterBody)),
             _ => self.end_open(name),
         }
     }
 
     /// Takes an end tag after `body` (#parsing-main-afterbody).
-    fn end_behind_body(&mut self, name: &str) -> Result<(), BuildFault>
+    fn end_after_body(&mut self, name: &str) -> Result<(), BuildFault>
         requires kept { IsKept self.old }
         requires insertion_mode { self.old.insertion_mode ≡ BuilderMode.AfterBody }
         requires no_text { paths.is_in_text self.old.path ≡ false }

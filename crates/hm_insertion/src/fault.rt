@@ -3,17 +3,17 @@ ghost use Rattle.std.specs.Prelude.{◌≡◌};
 ghost use Rattle.hm_insertion.specs.Building.{front_of, of_settle};
 ghost use Rattle.hm_insertion.specs.declared.fault.BuildFault.TheVariants as faults;
 
-use hm_base::{Memory, Rule};
-use hm_settle::SettleFault;
+use hm_base::{OutOfMemory, Rule};
+use hm_open_elements::SettleFault;
 use std::alloc::{AllocError, AllocFailed};
 
 /// Why a token isn't built into the tree.
 #[derive(Clone, Copy, PartialEq, Eq)]
 pub enum BuildFault {
-    /// The page is refused by this rule, `behind` bytes of text after the place where the token begins.
-    Rule { rule: Rule, behind: u32 },
+    /// The page is refused by this rule, `offset` bytes of text after the place where the token begins.
+    Rule { rule: Rule, offset: u32 },
     /// Memory was refused.
-    Memory,
+    OutOfMemory,
 }
 
 impl BuildFault {
@@ -22,33 +22,33 @@ impl BuildFault {
         ensures { result ≡ front_of self }
     {
         match self {
-            BuildFault::Rule { rule, .. } => BuildFault::Rule { rule, behind: 0 },
-            BuildFault::Memory => BuildFault::Memory,
+            BuildFault::Rule { rule, .. } => BuildFault::Rule { rule, offset: 0 },
+            BuildFault::OutOfMemory => BuildFault::OutOfMemory,
         }
     }
 }
 
-impl From<Memory> for BuildFault {
-    ghost from_gives = { λ _ fault. fault ≡ faults.Memory };
+impl From<OutOfMemory> for BuildFault {
+    ghost from_gives = { λ _ fault. fault ≡ faults.OutOfMemory };
 
-    fn from(_error: Memory) -> Self {
-        BuildFault::Memory
+    fn from(_error: OutOfMemory) -> Self {
+        BuildFault::OutOfMemory
     }
 }
 
 impl From<AllocError> for BuildFault {
-    ghost from_gives = { λ _ fault. fault ≡ faults.Memory };
+    ghost from_gives = { λ _ fault. fault ≡ faults.OutOfMemory };
 
     fn from(_error: AllocError) -> Self {
-        BuildFault::Memory
+        BuildFault::OutOfMemory
     }
 }
 
 impl<T: Drop> From<AllocFailed<T>> for BuildFault {
-    ghost from_gives = { λ _ fault. fault ≡ faults.Memory };
+    ghost from_gives = { λ _ fault. fault ≡ faults.OutOfMemory };
 
     fn from(_error: AllocFailed<T>) -> Self {
-        BuildFault::Memory
+        BuildFault::OutOfMemory
     }
 }
 
@@ -56,7 +56,7 @@ impl From<Rule> for BuildFault {
     ghost from_gives = { λ rule fault. fault ≡ faults.Rule rule 0 };
 
     fn from(rule: Rule) -> Self {
-        BuildFault::Rule { rule, behind: 0 }
+        BuildFault::Rule { rule, offset: 0 }
     }
 }
 
@@ -65,8 +65,8 @@ impl From<SettleFault> for BuildFault {
 
     fn from(fault: SettleFault) -> Self {
         match fault {
-            SettleFault::Rule { rule } => BuildFault::Rule { rule, behind: 0 },
-            SettleFault::Memory => BuildFault::Memory,
+            SettleFault::Rule { rule } => BuildFault::Rule { rule, offset: 0 },
+            SettleFault::OutOfMemory => BuildFault::OutOfMemory,
         }
     }
 }

@@ -14,8 +14,8 @@ use crate::insertion::BuilderMode;
 use crate::make::make_missing;
 use crate::moves::end_elements;
 use crate::parts::{Parts, is_in_text};
-use hm_base::{Memory, Rule, Word};
-use hm_settle::Path;
+use hm_base::{OutOfMemory, OwnedText, Rule};
+use hm_open_elements::Path;
 use hm_tree::{Maker, Tree};
 use std::alloc::Global;
 
@@ -53,8 +53,8 @@ impl Parts {
         make_missing(alloc, &mut self.maker, self.insertion_mode)?;
         close_all(
             &mut self.maker,
-            self.behind_body.as_slice(),
-            self.behind_html.as_slice(),
+            self.comments_after_body.as_slice(),
+            self.comments_after_html.as_slice(),
         )?;
         Ok(())
     }
@@ -76,7 +76,7 @@ fn end_rule(insertion_mode: BuilderMode, path: &Path) -> Option<Rule>
 }
 
 /// Ends all that is open, with comments before the last end and after it.
-fn close_all(maker: &mut Maker, inner: &[Word], last: &[Word]) -> Result<(), Memory>
+fn close_all(maker: &mut Maker, inner: &[OwnedText], last: &[OwnedText]) -> Result<(), OutOfMemory>
     requires open_still { 0 < length (path_after [] maker.old) }
     requires room { HasRoom (maker.old ++ closing (path_after [] maker.old) inner.now last.now) }
     ensures { OnOk result (maker.new ≡ maker.old ++ closing (path_after [] maker.old) inner.now last.now) }
@@ -89,7 +89,7 @@ fn close_all(maker: &mut Maker, inner: &[Word], last: &[Word]) -> Result<(), Mem
 }
 
 /// Appends comments.
-fn put_comments(maker: &mut Maker, comments: &[Word]) -> Result<(), Memory>
+fn put_comments(maker: &mut Maker, comments: &[OwnedText]) -> Result<(), OutOfMemory>
     requires { HasRoom (maker.old ++ map walks.comment comments.now) }
     ensures { OnOk result (maker.new ≡ maker.old ++ map walks.comment comments.now) }
 {

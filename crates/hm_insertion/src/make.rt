@@ -7,7 +7,7 @@ ghost use Rattle.hm_tree.specs.Trees.{HasRoom};
 ghost use Rattle.hm_insertion.specs.Inside.{CanMake, missing, body_made, head_closed, head_ended, head_made, html_made, html_then_head, only_head};
 
 use crate::insertion::BuilderMode;
-use hm_base::Memory;
+use hm_base::OutOfMemory;
 use hm_tree::{Attrs, Maker};
 use std::alloc::Global;
 
@@ -17,15 +17,15 @@ pub(crate) fn make_missing(
     alloc: Global,
     maker: &mut Maker,
     insertion_mode: BuilderMode,
-) -> Result<(), Memory>
+) -> Result<(), OutOfMemory>
     requires room { HasRoom (maker.old ++ missing insertion_mode) }
     requires open_there { CanMake insertion_mode (path_after [] maker.old) }
     ensures { OnOk result (maker.new ≡ maker.old ++ missing insertion_mode) }
 {
     match insertion_mode {
-        BuilderMode::BeforeHtml => make_html(alloc, maker),
-        BuilderMode::BeforeHead => make_head(alloc, maker),
-        BuilderMode::InHead { .. } => close_head(alloc, maker),
+        BuilderMode::BeforeHtml => make_html_up_to_body(alloc, maker),
+        BuilderMode::BeforeHead => make_head_up_to_body(alloc, maker),
+        BuilderMode::InHead { .. } => close_head_and_make_body(alloc, maker),
         BuilderMode::AfterHead => make_body(alloc, maker),
         BuilderMode::Initial
         | BuilderMode::InBody
@@ -34,25 +34,25 @@ pub(crate) fn make_missing(
     }
 }
 
-fn make_html(alloc: Global, maker: &mut Maker) -> Result<(), Memory>
+fn make_html_up_to_body(alloc: Global, maker: &mut Maker) -> Result<(), OutOfMemory>
     requires room { HasRoom (maker.old ++ html_made) }
     requires open_there { path_after [] maker.old ≡ [] }
     ensures { OnOk result (maker.new ≡ maker.old ++ html_made) }
 {
     maker.start("html", false, Attrs::new(alloc))?;
-    make_head(alloc, maker)
+    make_head_up_to_body(alloc, maker)
 }
 
-fn make_head(alloc: Global, maker: &mut Maker) -> Result<(), Memory>
+fn make_head_up_to_body(alloc: Global, maker: &mut Maker) -> Result<(), OutOfMemory>
     requires room { HasRoom (maker.old ++ head_made) }
     requires open_there { path_after [] maker.old ≡ under_html }
     ensures { OnOk result (maker.new ≡ maker.old ++ head_made) }
 {
     maker.start("head", false, Attrs::new(alloc))?;
-    close_head(alloc, maker)
+    close_head_and_make_body(alloc, maker)
 }
 
-fn close_head(alloc: Global, maker: &mut Maker) -> Result<(), Memory>
+fn close_head_and_make_body(alloc: Global, maker: &mut Maker) -> Result<(), OutOfMemory>
     requires room { HasRoom (maker.old ++ head_closed) }
     requires open_there { path_after [] maker.old ≡ under_head }
     ensures { OnOk result (maker.new ≡ maker.old ++ head_closed) }
@@ -61,7 +61,7 @@ fn close_head(alloc: Global, maker: &mut Maker) -> Result<(), Memory>
     make_body(alloc, maker)
 }
 
-fn make_body(alloc: Global, maker: &mut Maker) -> Result<(), Memory>
+fn make_body(alloc: Global, maker: &mut Maker) -> Result<(), OutOfMemory>
     requires { HasRoom (maker.old ++ body_made) }
     ensures { OnOk result (maker.new ≡ maker.old ++ body_made) }
 {
@@ -69,33 +69,33 @@ fn make_body(alloc: Global, maker: &mut Maker) -> Result<(), Memory>
 }
 
 /// Makes `head` where it is missing, and closes it (#the-before-html-insertion-mode to #parsing-main-inhead).
-pub(crate) fn close_made_head(
+pub(crate) fn close_missing_head(
     alloc: Global,
     maker: &mut Maker,
     insertion_mode: BuilderMode,
-) -> Result<(), Memory>
+) -> Result<(), OutOfMemory>
     requires room { HasRoom (maker.old ++ head_ended insertion_mode) }
     requires open_there { CanMake insertion_mode (path_after [] maker.old) }
     ensures { OnOk result (maker.new ≡ maker.old ++ head_ended insertion_mode) }
 {
     match insertion_mode {
-        BuilderMode::BeforeHtml => make_html_and_head(alloc, maker),
-        BuilderMode::BeforeHead => make_only_head(alloc, maker),
+        BuilderMode::BeforeHtml => make_html_and_closed_head(alloc, maker),
+        BuilderMode::BeforeHead => make_closed_head(alloc, maker),
         BuilderMode::InHead { .. } => maker.end(),
         _ => Ok(()),
     }
 }
 
-fn make_html_and_head(alloc: Global, maker: &mut Maker) -> Result<(), Memory>
+fn make_html_and_closed_head(alloc: Global, maker: &mut Maker) -> Result<(), OutOfMemory>
     requires room { HasRoom (maker.old ++ html_then_head) }
     requires open_there { path_after [] maker.old ≡ [] }
     ensures { OnOk result (maker.new ≡ maker.old ++ html_then_head) }
 {
     maker.start("html", false, Attrs::new(alloc))?;
-    make_only_head(alloc, maker)
+    make_closed_head(alloc, maker)
 }
 
-fn make_only_head(alloc: Global, maker: &mut Maker) -> Result<(), Memory>
+fn make_closed_head(alloc: Global, maker: &mut Maker) -> Result<(), OutOfMemory>
     requires room { HasRoom (maker.old ++ only_head) }
     requires open_there { path_after [] maker.old ≡ under_html }
     ensures { OnOk result (maker.new ≡ maker.old ++ only_head) }

@@ -8,7 +8,7 @@ ghost use Rattle.hm_insertion.specs.Inside.{IsDone, IsKept, Takes, state_of};
 use crate::BuildFault;
 use crate::insertion::BuilderMode;
 use crate::parts::Parts;
-use hm_base::{Memory, Rule, Word};
+use hm_base::{OutOfMemory, OwnedText, Rule};
 use std::alloc::Global;
 
 impl Parts {
@@ -27,32 +27,32 @@ impl Parts {
             }
             _ => Err(BuildFault::Rule {
                 rule: Rule::SecondDoctype,
-                behind: 0,
+                offset: 0,
             }),
         }
     }
 
     /// Takes a comment (#parsing-main-inhtml). After `body` and after `html` it is kept for the end of the page
     /// (#parsing-main-afterbody, #the-after-after-body-insertion-mode).
-    pub(crate) fn comment(&mut self, alloc: Global, text: &str) -> Result<(), Memory>
+    pub(crate) fn comment(&mut self, alloc: Global, text: &str) -> Result<(), OutOfMemory>
         requires kept { IsKept self.old }
         requires room { Fits (step (state_of self.old) (tokens.comment text.now)) self.old.maker }
         ensures { OnOk result (IsDone (step (state_of self.old) (tokens.comment text.now)) self.old self.new) }
     {
         self.drops_line_feed = false;
         match self.insertion_mode {
-            BuilderMode::AfterBody => self.behind_body.push(kept_word(alloc, text)?)?,
-            BuilderMode::AfterHtml => self.behind_html.push(kept_word(alloc, text)?)?,
+            BuilderMode::AfterBody => self.comments_after_body.push(kept_word(alloc, text)?)?,
+            BuilderMode::AfterHtml => self.comments_after_html.push(kept_word(alloc, text)?)?,
             _ => self.maker.comment(text)?,
         }
         Ok(())
     }
 }
 
-fn kept_word(alloc: Global, text: &str) -> Result<Word, Memory>
+fn kept_word(alloc: Global, text: &str) -> Result<OwnedText, OutOfMemory>
     ensures { IfOk result (λ word. word ≡ text.now) }
 {
-    Ok(Word {
+    Ok(OwnedText {
         text: String::from_str(alloc, text)?,
     })
 }

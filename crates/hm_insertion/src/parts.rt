@@ -4,9 +4,9 @@ ghost use Rattle.hm_elements.specs.Paths as paths;
 ghost use Rattle.hm_insertion.specs.Inside.{inside_head, open_path, text_name};
 
 use crate::insertion::{BuilderMode, HeadText};
-use hm_base::Word;
+use hm_base::OwnedText;
 use hm_elements::is_raw;
-use hm_settle::Path;
+use hm_open_elements::Path;
 use hm_tree::Maker;
 
 /// What a tree is built from. Between two tokens the open elements are those of the events so far.
@@ -19,8 +19,8 @@ pub(crate) struct Parts {
     /// Whether a line feed that comes next is dropped.
     pub drops_line_feed: bool,
     /// The comments that stand after `body` and after `html`.
-    pub behind_body: Vec<Word>,
-    pub behind_html: Vec<Word>,
+    pub comments_after_body: Vec<OwnedText>,
+    pub comments_after_html: Vec<OwnedText>,
 }
 
 impl HeadText {

@@ -5,8 +5,8 @@ ghost use Rattle.hm_base.specs.Walks.{path_after};
 ghost use Rattle.hm_construction_laws.specs.Steps.{end_event, html_start, reach_body, start_in_body, starts, step, step_start};
 ghost use Rattle.hm_elements.specs.Paths.{is_in_text};
 ghost use Rattle.hm_elements.specs.Tables as tables;
-ghost use Rattle.hm_settle.specs.Answers.{elements_of};
-ghost use Rattle.hm_settle.specs.Plans as plans;
+ghost use Rattle.hm_open_elements.specs.Answers.{elements_of};
+ghost use Rattle.hm_open_elements.specs.Plans as plans;
 ghost use Rattle.hm_tree.specs.Tokens as tokens;
 ghost use Rattle.hm_tree.specs.Trees.{HasRoom};
 ghost use Rattle.hm_insertion.specs.BeforeBody.{IsBefore};
@@ -18,9 +18,9 @@ use crate::insertion::BuilderMode;
 use crate::make::make_missing;
 use crate::moves::{end_elements, start_made};
 use crate::parts::Parts;
-use hm_base::{Memory, Rule};
+use hm_base::{OutOfMemory, Rule};
 use hm_elements::{Named, is_preformatted, is_refused, is_root, same_name};
-use hm_settle::{Moves, Path};
+use hm_open_elements::{Moves, Path};
 use hm_tree::{Attrs, Maker};
 use std::alloc::Global;
 
@@ -125,7 +125,7 @@ impl Parts {
     ) -> Result<(), BuildFault>
         requires { IsOpened tag.name.now foreign self.old }
         ensures ok { OnOk result (IsEntered slash self.old self.new) }
-        ensures err { IfErr result (λ fault. fault ≡ BuildFault.Memory) }
+        ensures err { IfErr result (λ fault. fault ≡ BuildFault.OutOfMemory) }
     {
         if foreign {
             if slash {
@@ -159,7 +159,7 @@ fn move_and_start(
     name: &str,
     foreign: bool,
     attrs: &Attrs,
-) -> Result<(), Memory>
+) -> Result<(), OutOfMemory>
     requires closes { moves.closes ≤ length (path_after [] maker.old) }
     requires room { HasRoom (maker.old ++ ((map end_event (take moves.closes (path_after [] maker.old)) ++ starts (elements_of moves.made)) ++ walks.start name.now foreign attrs.now ∷ [])) }
     ensures { OnOk result (maker.new ≡ maker.old ++ ((map end_event (take moves.closes (path_after [] maker.old)) ++ starts (elements_of moves.made)) ++ walks.start name.now foreign attrs.now ∷ [])) }

@@ -2,18 +2,18 @@
 ghost use Rattle.std.specs.Prelude.{◌≡◌, ◌+◌, ◌^◌, ◌<◌, ◌++◌, length, string_bytes, encode_utf8_all, true, false, None, IfOk, OnOk};
 ghost use Rattle.hm_elements.specs.Paths as paths;
 ghost use Rattle.hm_tree.specs.Trees.{HasRoom, last_agrees};
-ghost use Rattle.hm_construction_laws.specs.Steps.{behind_bytes, step, step_bytes};
+ghost use Rattle.hm_construction_laws.specs.Steps.{after_bytes, step, step_bytes};
 ghost use Rattle.hm_tree.specs.Tokens as tokens;
 ghost use Rattle.hm_tree.specs.Tokens.{points_of};
 ghost use Rattle.hm_insertion.specs.Building.{Fits};
 ghost use Rattle.hm_insertion.specs.Inside as inside;
-ghost use Rattle.hm_insertion.specs.Inside.{IsCut, IsKept, IsPutBehind, Takes, mixed_events, open_path, state_of, with_blank};
+ghost use Rattle.hm_insertion.specs.Inside.{IsCut, IsKept, IsPutAfter, Takes, mixed_events, open_path, state_of, with_blank};
 
 use crate::BuildFault;
 use crate::insertion::BuilderMode;
 use crate::make::make_missing;
 use crate::parts::{Parts, is_in_raw, is_in_text};
-use hm_base::{Memory, Points, Rule, is_space};
+use hm_base::{OutOfMemory, Points, Rule, is_space};
 use hm_tree::Maker;
 use std::alloc::Global;
 
@@ -30,7 +30,7 @@ fn split_blank(text: &str) -> (&str, &str)
 }
 
 /// Why a text that isn't whitespace is refused (#parsing-main-inhtml, #parsing-main-intabletext, #parsing-main-inselect).
-fn text_rule(insertion_mode: BuilderMode, path: &hm_settle::Path) -> Option<Rule>
+fn text_rule(insertion_mode: BuilderMode, path: &hm_open_elements::Path) -> Option<Rule>
     ensures { result ≡ inside.text_rule insertion_mode path.now }
 {
     match insertion_mode {
@@ -47,7 +47,7 @@ fn text_rule(insertion_mode: BuilderMode, path: &hm_settle::Path) -> Option<Rule
 
 /// Whether any text stands as it is: in the body, where a text isn't only whitespace (#parsing-main-inbody).
 #[inline(always)]
-fn holds_any_text(insertion_mode: BuilderMode, path: &hm_settle::Path) -> bool
+fn holds_any_text(insertion_mode: BuilderMode, path: &hm_open_elements::Path) -> bool
     ensures body { result ≡ true → insertion_mode ≡ BuilderMode.InBody }
     ensures plain { result ≡ true → paths.is_in_blank path.now ≡ false }
 {
@@ -58,7 +58,7 @@ fn holds_any_text(insertion_mode: BuilderMode, path: &hm_settle::Path) -> bool
 }
 
 /// Puts whitespace where it stands, or drops it (#the-initial-insertion-mode to #the-before-head-insertion-mode).
-fn keep_blank(maker: &mut Maker, insertion_mode: BuilderMode, text: &str) -> Result<(), Memory>
+fn keep_blank(maker: &mut Maker, insertion_mode: BuilderMode, text: &str) -> Result<(), OutOfMemory>
     requires room { HasRoom (with_blank insertion_mode maker.old text.now) }
     requires same_raw { last_agrees maker.old false ≡ true }
     ensures { OnOk result (maker.new ≡ with_blank insertion_mode maker.old text.now) }
@@ -114,7 +114,7 @@ impl Parts {
         requires all { self.old.drops_line_feed ≡ false }
         requires short { before + length text.now < 2 ^ 32 }
         requires room { Fits (step_bytes text.now (state_of self.old)) self.old.maker }
-        ensures { Takes (behind_bytes before (step_bytes text.now (state_of self.old))) result self.old self.new }
+        ensures { Takes (after_bytes before (step_bytes text.now (state_of self.old))) result self.old self.new }
     {
         if is_in_text(self.insertion_mode, &self.path) {
             let raw = is_in_raw(self.insertion_mode, &self.path);
@@ -131,8 +131,8 @@ impl Parts {
             return Ok(());
         }
         if let Some(rule) = text_rule(self.insertion_mode, &self.path) {
-            let behind = before + blank.len() as u32;
-            return Err(BuildFault::Rule { rule, behind });
+            let offset = before + blank.len() as u32;
+            return Err(BuildFault::Rule { rule, offset });
         }
         self.mixed_text(alloc, blank, rest)?;
         Ok(())
@@ -140,12 +140,12 @@ impl Parts {
 
     /// Takes whitespace and a text after it that isn't, where text may stand (#the-before-html-insertion-mode to
     /// #parsing-main-inbody).
-    fn mixed_text(&mut self, alloc: Global, blank: &str, rest: &str) -> Result<(), Memory>
+    fn mixed_text(&mut self, alloc: Global, blank: &str, rest: &str) -> Result<(), OutOfMemory>
         requires kept { IsKept self.old }
         requires not_text { paths.is_in_text (open_path self.old.insertion_mode self.old.path) ≡ false }
         requires stands { inside.text_rule self.old.insertion_mode self.old.path ≡ None }
         requires room { HasRoom (self.old.maker ++ mixed_events self.old.insertion_mode blank.now rest.now) }
-        ensures { OnOk result (IsPutBehind (mixed_events self.old.insertion_mode blank.now rest.now) self.old self.new) }
+        ensures { OnOk result (IsPutAfter (mixed_events self.old.insertion_mode blank.now rest.now) self.old self.new) }
     {
         keep_blank(&mut self.maker, self.insertion_mode, blank)?;
         make_missing(alloc, &mut self.maker, self.insertion_mode)?;
@@ -156,7 +156,7 @@ impl Parts {
 }
 
 /// The text of one or two code points.
-fn text_of(alloc: Global, points: Points) -> Result<String, Memory>
+fn text_of(alloc: Global, points: Points) -> Result<String, OutOfMemory>
     ensures { IfOk result (λ text. string_bytes text ≡ encode_utf8_all (points_of points)) }
 {
     let mut text = String::new(alloc);

@@ -8,13 +8,13 @@ use Rattle.json.specs.Json.{after_end_array, items, parse_map, value}
 use Rattle.json.proofs.Grammar.{value_is, value-begin_array, items_end, items_more}
 use Rattle.serde_json.specs.Data.{Data, string, array, Items, no_items, item}
 use Rattle.serde_json.specs.Read.{read}
-use Rattle.hm_base.specs.Walks.{Attribute, Event, Element, path_behind}
+use Rattle.hm_base.specs.Walks.{Attribute, Event, Element, path_after_event}
 use Rattle.hm_refs.specs.Ordered.{Begins}
 use Rattle.hm_refs.proofs.ByTokens.{begins_shorter}
 use Rattle.hm_refs.proofs.ReadingLaws.{json_read}
 use Rattle.hm_json_tree.specs.declared.limits.TheConstants.{JSON_LIMIT}
-use Rattle.hm_json_tree.specs.declared.form.Form.{Form}
-use Rattle.hm_json_tree.specs.declared.form.Form.TheVariants.{Doctype, Start, Text, Comment, End}
+use Rattle.hm_json_tree.specs.declared.form.JsonEvent.{JsonEvent}
+use Rattle.hm_json_tree.specs.declared.form.JsonEvent.TheVariants.{Doctype, Start, Text, Comment, End}
 use Rattle.hm_json_tree.specs.Breaks.{first_break}
 use Rattle.hm_json_tree.specs.Forms.{event_told, told}
 use Rattle.hm_json_tree.specs.Pairs.{text_attribute}
@@ -79,7 +79,7 @@ attributes_back [] = refl
 attributes_back (a ∷ attributes) = ap (option_map (λ rest. a ∷ rest)) (attributes_back attributes)
 
 -- the data of a form is read as its event
-pub form_read : (path : List Element) (f : Form) → event_in path (form_data f) ≡ event_told path f
+pub form_read : (path : List Element) (f : JsonEvent) → event_in path (form_data f) ≡ event_told path f
 form_read path (Doctype true) = refl
 form_read path (Doctype false) = refl
 form_read path (Start n attributes) = rw (attributes_back attributes) refl
@@ -94,10 +94,10 @@ pub start_said : (old mid new : List Token) (n : List ℕ) (attributes : List At
     → Lists 125 old (item (string n) (item (array (attributes_data attributes)) no_items)) last
 start_said old mid new n attributes e p last close = text_more 125 old mid last n _ e (list_more 125 mid new last _ no_items p (list_ends 125 new last close))
 
-pub item_read : (old ts r s new : List Token) (kind : List ℕ) (f : Form) → old ≡ Token.begin_array ∷ ts → IsText ts kind r → Says kind r f s → after_end_array s ≡ Some new → IsItem old f new
+pub item_read : (old ts r s new : List Token) (kind : List ℕ) (f : JsonEvent) → old ≡ Token.begin_array ∷ ts → IsText ts kind r → Says kind r f s → after_end_array s ≡ Some new → IsItem old f new
 item_read old ts r s new kind f b e says close = array_begins 126 old ts new _ b (omega arith) (rw (← says.0) (text_more 125 ts r new kind (said f) e (says.1 new close)))
 
-pub told_is : (path : List Element) (f : Form) (e : Event) → event_told path f ≡ Some e → event_told path f ≡ Some (told path f)
+pub told_is : (path : List Element) (f : JsonEvent) (e : Event) → event_told path f ≡ Some e → event_told path f ≡ Some (told path f)
 told_is path (Doctype legacy) e h = refl
 told_is path (Start n attributes) e h = refl
 told_is path (Text s) e h = refl
@@ -107,43 +107,43 @@ told_is (m ∷ path) End e h = refl
 
 -- ---- Arrays of events
 
-pub told_depth : (path : List Element) (f : Form) (e : Event) (n : ℕ) → event_told path f ≡ Some e → length (path_behind path e) ≡ n → length (path_behind path (told path f)) ≡ n
+pub told_depth : (path : List Element) (f : JsonEvent) (e : Event) (n : ℕ) → event_told path f ≡ Some e → length (path_after_event path e) ≡ n → length (path_after_event path (told path f)) ≡ n
 told_depth path f e n h l =
     let both = told_is path f e h in
     let same : e ≡ told path f = cc in
-    subst (λ x. length (path_behind path x) ≡ n) same l
+    subst (λ x. length (path_after_event path x) ≡ n) same l
 
-item_in : (i : ℕ) (path : List Element) (f : Form) (e : Event) (ds : Items) → event_told path f ≡ Some e → events_in i path (item (form_data f) ds) ≡ put_event e (events_in (i + 1) (path_behind path e) ds)
-item_in i path f e ds h = ap (λ o. with_event i o (λ e. events_in (i + 1) (path_behind path e) ds)) (form_read path f ∙ h)
+item_in : (i : ℕ) (path : List Element) (f : JsonEvent) (e : Event) (ds : Items) → event_told path f ≡ Some e → events_in i path (item (form_data f) ds) ≡ put_event e (events_in (i + 1) (path_after_event path e) ds)
+item_in i path f e ds h = ap (λ o. with_event i o (λ e. events_in (i + 1) (path_after_event path e) ds)) (form_read path f ∙ h)
 
 pub none_read : (old : List Token) → IsRead old [] [] old
 none_read old = λ ds last l. (ds, l, refl)
 
-module _ (old mid new : List Token) (w : List Event) (path : List Element) (r : IsRead old w path mid) (f : Form) (e : Event) (b : IsItem mid f new) (h : event_told path f ≡ Some e) where
+module _ (old mid new : List Token) (w : List Event) (path : List Element) (r : IsRead old w path mid) (f : JsonEvent) (e : Event) (b : IsItem mid f new) (h : event_told path f ≡ Some e) where
   -- one event more
-  pub one_read : IsRead old (w ++ e ∷ []) (path_behind path e) new
+  pub one_read : IsRead old (w ++ e ∷ []) (path_after_event path e) new
   one_read = λ ds last l.
       let all = r (item (form_data f) ds) last (list_more 126 mid new last (form_data f) ds b l) in
       let count : length w + 1 ≡ length (w ++ e ∷ []) = omega (arith, length_push w e) in
-      (all.0, all.1, all.2 ∙ ap (put_events w) (item_in (length w) path f e ds h ∙ ap (λ n. put_event e (events_in n (path_behind path e) ds)) count) ∙ sym (put_events-push w e _))
+      (all.0, all.1, all.2 ∙ ap (put_events w) (item_in (length w) path f e ds h ∙ ap (λ n. put_event e (events_in n (path_after_event path e) ds)) count) ∙ sym (put_events-push w e _))
 
   -- the first break, where events follow up to the end
-  pub read_breaks : (k opened : ℕ) → ((x : List Event) → first_break (w ++ e ∷ x) ≡ Some (record { event = length w; point = k })) → length (path_behind path e) ≡ opened → Passes new opened → Whole old (not_settled (record { event = length w; point = k }))
+  pub read_breaks : (k opened : ℕ) → ((x : List Event) → first_break (w ++ e ∷ x) ≡ Some (record { event = length w; point = k })) → length (path_after_event path e) ≡ opened → Passes new opened → Whole old (not_settled (record { event = length w; point = k }))
   read_breaks k opened breaks count p =
       let all = r (item (form_data f) p.0) [] (list_more 126 mid new [] (form_data f) p.0 b p.1) in
-      let more = p.2 (length w + 1) (path_behind path e) count in (
+      let more = p.2 (length w + 1) (path_after_event path e) count in (
         all.0,
         all.1,
         ap of_listed (all.2 ∙ ap (put_events w) (item_in (length w) path f e p.0 h ∙ ap (put_event e) more.1) ∙ put_events-listed w (e ∷ more.0)) ∙ ap (λ x. unless_broken x (w ++ e ∷ more.0)) (breaks more.0),
       )
 
   -- what follows is no walk
-  pub read_fails : (opened : ℕ) (fault : JsonWalk) → length (path_behind path e) ≡ opened → PassesAs new opened fault → Whole old fault
+  pub read_fails : (opened : ℕ) (fault : JsonWalk) → length (path_after_event path e) ≡ opened → PassesAs new opened fault → Whole old fault
   read_fails opened fault count p =
       let all = r (item (form_data f) p.0) [] (list_more 126 mid new [] (form_data f) p.0 b p.1) in (
         all.0,
         all.1,
-        ap of_listed (all.2 ∙ ap (put_events w) (item_in (length w) path f e p.0 h) ∙ sym (put_events-push w e _)) ∙ p.2 (length w + 1) (path_behind path e) (w ++ e ∷ []) count,
+        ap of_listed (all.2 ∙ ap (put_events w) (item_in (length w) path f e p.0 h) ∙ sym (put_events-push w e _)) ∙ p.2 (length w + 1) (path_after_event path e) (w ++ e ∷ []) count,
       )
 
 -- after the last event
@@ -168,7 +168,7 @@ one_passed old mid new opened depth next p one = λ ds last l.
           let m = more g.now_open g.depth_is in
           record {
             events = g.events ++ m.0 ∷ [];
-            now_open = path_behind g.now_open m.0;
+            now_open = path_after_event g.now_open m.0;
             next = g.next + 1;
             depth_is = m.2;
             listed_is = g.listed_is ∙ ap (put_events g.events) (item_in g.next g.now_open f m.0 ds m.1) ∙ sym (put_events-push g.events m.0 _);

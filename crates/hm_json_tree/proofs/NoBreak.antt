@@ -5,23 +5,23 @@ use Rattle.std.proofs.lemmas.Bool.{and_parts, and_from, not-true}
 use Rattle.hm_base.specs.Bytes.{is_null}
 use Rattle.hm_base.specs.Forms.{has_byte, is_blank}
 use Rattle.hm_elements.specs.Paths.{is_in_raw, is_in_blank}
-use Rattle.hm_base.specs.Walks.{same_flag, Event, doctype, start, text, comment, end, Element, path_behind, path_after, ends_match, is_same_element, begins_end, begins_text}
+use Rattle.hm_base.specs.Walks.{same_flag, Event, doctype, start, text, comment, end, Element, path_after_event, path_after, ends_match, is_same_element, begins_end, begins_text}
 use Rattle.hm_elements.specs.Tables.{is_void}
 use Rattle.hm_elements.specs.Settled.{go_on, Top, next_top, is_doctype, is_all_there, has_top, Frame, no_head, next_frame, starts_root, starts_inner_root, has_frame, all_events, nests, is_svg_in_place, closes_void, is_text_in_place, is_raw_text, is_comment_in_form, has_attributes_in_form, is_not_deep, is_event_utf8, SettledFrom}
-use Rattle.hm_elements.proofs.Chain.{here, behind_event}
+use Rattle.hm_elements.proofs.Chain.{here, after_event}
 use Rattle.hm_elements.proofs.Events.{EventStands}
-use Rattle.hm_json_tree.specs.Breaks.{Break, Past, first_past, past_behind, top_behind, frame_behind, is_end, is_text, is_behind_void, is_behind_text, unless, point_at, at_event, first_break_from, first_break}
+use Rattle.hm_json_tree.specs.Breaks.{Break, Past, first_past, past_after, top_after, frame_after, is_end, is_text, is_after_void, is_after_text, unless, point_at, at_event, first_break_from, first_break}
 use Rattle.hm_json_tree.specs.Laws.{NoBreakIsSettled, SettledHasNoBreak}
 
 -- ---- What an event without a break passes
 
 pub record Passes (p : Past) (e : Event) : Type 0 where
-  pub top : is_some (top_behind p.top p.path e) ≡ true
-  pub frame : is_some (frame_behind p.frame p.path e) ≡ true
+  pub top : is_some (top_after p.top p.path e) ≡ true
+  pub frame : is_some (frame_after p.frame p.path e) ≡ true
   pub nesting : nests p.path e [] ≡ true
   pub svg : is_svg_in_place p.path e [] ≡ true
-  pub due : not (is_behind_void p.before) || is_end e ≡ true
-  pub texts : is_text_in_place p.path e [] && not (is_behind_text p.before && is_text e) ≡ true
+  pub due : not (is_after_void p.before) || is_end e ≡ true
+  pub texts : is_text_in_place p.path e [] && not (is_after_text p.before && is_text e) ≡ true
   pub raw_texts : is_raw_text p.path e [] ≡ true
   pub comments : is_comment_in_form p.path e [] ≡ true
   pub attributes : has_attributes_in_form p.path e [] ≡ true
@@ -54,61 +54,61 @@ at_none i (Some n) more h = cc
 
 -- ---- What has stood at the top and under html
 
-top_more : (t : Top) (path : List Element) (e : Event) (w : List Event) → is_some (top_behind t path e) ≡ true → has_top (unwrap_or (top_behind t path e) t) (path_behind path e) w ≡ true → has_top t path (e ∷ w) ≡ true
+top_more : (t : Top) (path : List Element) (e : Event) (w : List Event) → is_some (top_after t path e) ≡ true → has_top (unwrap_or (top_after t path e) t) (path_after_event path e) w ≡ true → has_top t path (e ∷ w) ≡ true
 top_more t [] e w some h = by (next_top t e) some h
   where
-    by : (o : Option Top) → is_some o ≡ true → has_top (unwrap_or o t) (path_behind [] e) w ≡ true → go_on o (λ next. has_top next (path_behind [] e) w) ≡ true
+    by : (o : Option Top) → is_some o ≡ true → has_top (unwrap_or o t) (path_after_event [] e) w ≡ true → go_on o (λ next. has_top next (path_after_event [] e) w) ≡ true
     by None s h = cc
     by (Some next) s h = h
 top_more t (m ∷ path) e w some h = by (is_doctype e) some h
   where
-    by : (b : Bool) → is_some (cond b None (Some t)) ≡ true → has_top (unwrap_or (cond b None (Some t)) t) (path_behind (m ∷ path) e) w ≡ true → not b && has_top t (path_behind (m ∷ path) e) w ≡ true
+    by : (b : Bool) → is_some (cond b None (Some t)) ≡ true → has_top (unwrap_or (cond b None (Some t)) t) (path_after_event (m ∷ path) e) w ≡ true → not b && has_top t (path_after_event (m ∷ path) e) w ≡ true
     by true s h = cc
     by false s h = h
 
-top_less : (t : Top) (path : List Element) (e : Event) (w : List Event) → has_top t path (e ∷ w) ≡ true → (is_some (top_behind t path e) ≡ true) × (has_top (unwrap_or (top_behind t path e) t) (path_behind path e) w ≡ true)
+top_less : (t : Top) (path : List Element) (e : Event) (w : List Event) → has_top t path (e ∷ w) ≡ true → (is_some (top_after t path e) ≡ true) × (has_top (unwrap_or (top_after t path e) t) (path_after_event path e) w ≡ true)
 top_less t [] e w h = by (next_top t e) h
   where
-    by : (o : Option Top) → go_on o (λ next. has_top next (path_behind [] e) w) ≡ true → (is_some o ≡ true) × (has_top (unwrap_or o t) (path_behind [] e) w ≡ true)
+    by : (o : Option Top) → go_on o (λ next. has_top next (path_after_event [] e) w) ≡ true → (is_some o ≡ true) × (has_top (unwrap_or o t) (path_after_event [] e) w ≡ true)
     by None h = cc
     by (Some next) h = (refl, h)
 top_less t (m ∷ path) e w h = by (is_doctype e) h
   where
-    by : (b : Bool) → not b && has_top t (path_behind (m ∷ path) e) w ≡ true → (is_some (cond b None (Some t)) ≡ true) × (has_top (unwrap_or (cond b None (Some t)) t) (path_behind (m ∷ path) e) w ≡ true)
+    by : (b : Bool) → not b && has_top t (path_after_event (m ∷ path) e) w ≡ true → (is_some (cond b None (Some t)) ≡ true) × (has_top (unwrap_or (cond b None (Some t)) t) (path_after_event (m ∷ path) e) w ≡ true)
     by true h = cc
     by false h = (refl, h)
 
-frame_more : (f : Frame) (path : List Element) (e : Event) (w : List Event) → is_some (frame_behind f path e) ≡ true → has_frame (unwrap_or (frame_behind f path e) f) (path_behind path e) w ≡ true → has_frame f path (e ∷ w) ≡ true
+frame_more : (f : Frame) (path : List Element) (e : Event) (w : List Event) → is_some (frame_after f path e) ≡ true → has_frame (unwrap_or (frame_after f path e) f) (path_after_event path e) w ≡ true → has_frame f path (e ∷ w) ≡ true
 frame_more f [] e w some h = by (starts_inner_root e) some h
   where
-    by : (b : Bool) → is_some (cond b None (Some no_head)) ≡ true → has_frame (unwrap_or (cond b None (Some no_head)) f) (path_behind [] e) w ≡ true → not b && has_frame no_head (path_behind [] e) w ≡ true
+    by : (b : Bool) → is_some (cond b None (Some no_head)) ≡ true → has_frame (unwrap_or (cond b None (Some no_head)) f) (path_after_event [] e) w ≡ true → not b && has_frame no_head (path_after_event [] e) w ≡ true
     by true s h = cc
     by false s h = h
 frame_more f (m ∷ []) e w some h = by (next_frame f e) some h
   where
-    by : (o : Option Frame) → is_some o ≡ true → has_frame (unwrap_or o f) (path_behind (m ∷ []) e) w ≡ true → go_on o (λ next. has_frame next (path_behind (m ∷ []) e) w) ≡ true
+    by : (o : Option Frame) → is_some o ≡ true → has_frame (unwrap_or o f) (path_after_event (m ∷ []) e) w ≡ true → go_on o (λ next. has_frame next (path_after_event (m ∷ []) e) w) ≡ true
     by None s h = cc
     by (Some next) s h = h
 frame_more f (m ∷ k ∷ path) e w some h = by (starts_root e) some h
   where
-    by : (b : Bool) → is_some (cond b None (Some f)) ≡ true → has_frame (unwrap_or (cond b None (Some f)) f) (path_behind (m ∷ k ∷ path) e) w ≡ true → not b && has_frame f (path_behind (m ∷ k ∷ path) e) w ≡ true
+    by : (b : Bool) → is_some (cond b None (Some f)) ≡ true → has_frame (unwrap_or (cond b None (Some f)) f) (path_after_event (m ∷ k ∷ path) e) w ≡ true → not b && has_frame f (path_after_event (m ∷ k ∷ path) e) w ≡ true
     by true s h = cc
     by false s h = h
 
-frame_less : (f : Frame) (path : List Element) (e : Event) (w : List Event) → has_frame f path (e ∷ w) ≡ true → (is_some (frame_behind f path e) ≡ true) × (has_frame (unwrap_or (frame_behind f path e) f) (path_behind path e) w ≡ true)
+frame_less : (f : Frame) (path : List Element) (e : Event) (w : List Event) → has_frame f path (e ∷ w) ≡ true → (is_some (frame_after f path e) ≡ true) × (has_frame (unwrap_or (frame_after f path e) f) (path_after_event path e) w ≡ true)
 frame_less f [] e w h = by (starts_inner_root e) h
   where
-    by : (b : Bool) → not b && has_frame no_head (path_behind [] e) w ≡ true → (is_some (cond b None (Some no_head)) ≡ true) × (has_frame (unwrap_or (cond b None (Some no_head)) f) (path_behind [] e) w ≡ true)
+    by : (b : Bool) → not b && has_frame no_head (path_after_event [] e) w ≡ true → (is_some (cond b None (Some no_head)) ≡ true) × (has_frame (unwrap_or (cond b None (Some no_head)) f) (path_after_event [] e) w ≡ true)
     by true h = cc
     by false h = (refl, h)
 frame_less f (m ∷ []) e w h = by (next_frame f e) h
   where
-    by : (o : Option Frame) → go_on o (λ next. has_frame next (path_behind (m ∷ []) e) w) ≡ true → (is_some o ≡ true) × (has_frame (unwrap_or o f) (path_behind (m ∷ []) e) w ≡ true)
+    by : (o : Option Frame) → go_on o (λ next. has_frame next (path_after_event (m ∷ []) e) w) ≡ true → (is_some o ≡ true) × (has_frame (unwrap_or o f) (path_after_event (m ∷ []) e) w ≡ true)
     by None h = cc
     by (Some next) h = (refl, h)
 frame_less f (m ∷ k ∷ path) e w h = by (starts_root e) h
   where
-    by : (b : Bool) → not b && has_frame f (path_behind (m ∷ k ∷ path) e) w ≡ true → (is_some (cond b None (Some f)) ≡ true) × (has_frame (unwrap_or (cond b None (Some f)) f) (path_behind (m ∷ k ∷ path) e) w ≡ true)
+    by : (b : Bool) → not b && has_frame f (path_after_event (m ∷ k ∷ path) e) w ≡ true → (is_some (cond b None (Some f)) ≡ true) × (has_frame (unwrap_or (cond b None (Some f)) f) (path_after_event (m ∷ k ∷ path) e) w ≡ true)
     by true h = cc
     by false h = (refl, h)
 
@@ -166,10 +166,10 @@ depth_alone path (end n foreign) w = refl
 
 -- what the event before asks of what is next
 record Due (before : Option Event) (w : List Event) : Type 0 where
-  ends : is_behind_void before ≡ true → begins_end w ≡ true
-  apart : is_behind_text before ≡ true → begins_text w ≡ false
+  ends : is_after_void before ≡ true → begins_end w ≡ true
+  apart : is_after_text before ≡ true → begins_text w ≡ false
 
-text_alone : (path : List Element) (e : Event) (w : List Event) → (is_behind_text (Some e) ≡ true → begins_text w ≡ false) → is_text_in_place path e w ≡ is_text_in_place path e []
+text_alone : (path : List Element) (e : Event) (w : List Event) → (is_after_text (Some e) ≡ true → begins_text w ≡ false) → is_text_in_place path e w ≡ is_text_in_place path e []
 unfolding is_text_in_place
 text_alone path (doctype legacy) w h = refl
 text_alone path (start n foreign attributes) w h = refl
@@ -177,7 +177,7 @@ text_alone path (text s raw) w h = rw (h refl) refl
 text_alone path (comment s) w h = refl
 text_alone path (end n foreign) w h = refl
 
-void_closed : (path : List Element) (e : Event) (w : List Event) → (is_behind_void (Some e) ≡ true → begins_end w ≡ true) → closes_void path e w ≡ true
+void_closed : (path : List Element) (e : Event) (w : List Event) → (is_after_void (Some e) ≡ true → begins_end w ≡ true) → closes_void path e w ≡ true
 unfolding closes_void
 void_closed path (doctype legacy) w h = refl
 void_closed path (start n foreign attributes) w h = by (foreign || not (is_void n)) h
@@ -189,7 +189,7 @@ void_closed path (text s raw) w h = refl
 void_closed path (comment s) w h = refl
 void_closed path (end n foreign) w h = refl
 
-void_due : (path : List Element) (e : Event) (w : List Event) → closes_void path e w ≡ true → is_behind_void (Some e) ≡ true → begins_end w ≡ true
+void_due : (path : List Element) (e : Event) (w : List Event) → closes_void path e w ≡ true → is_after_void (Some e) ≡ true → begins_end w ≡ true
 unfolding closes_void
 void_due path (doctype legacy) w h k = cc
 void_due path (start n foreign attributes) w h k = by (foreign || not (is_void n)) h k
@@ -201,7 +201,7 @@ void_due path (text s raw) w h k = cc
 void_due path (comment s) w h k = cc
 void_due path (end n foreign) w h k = cc
 
-text_due : (path : List Element) (e : Event) (w : List Event) → is_text_in_place path e w ≡ true → is_behind_text (Some e) ≡ true → begins_text w ≡ false
+text_due : (path : List Element) (e : Event) (w : List Event) → is_text_in_place path e w ≡ true → is_after_text (Some e) ≡ true → begins_text w ≡ false
 unfolding is_text_in_place
 text_due path (doctype legacy) w h k = cc
 text_due path (start n foreign attributes) w h k = cc
@@ -239,7 +239,7 @@ implied true b h e = h
 implied false b h e = cc
 
 -- after the start of an element something is left
-still_open : (path : List Element) (e : Event) → is_behind_void (Some e) ≡ true → path_after (path_behind path e) [] ≡ [] → ⊥
+still_open : (path : List Element) (e : Event) → is_after_void (Some e) ≡ true → path_after (path_after_event path e) [] ≡ [] → ⊥
 still_open path (doctype legacy) h k = cc
 still_open path (start n foreign attributes) h k = cc
 still_open path (text s raw) h k = cc
@@ -247,20 +247,20 @@ still_open path (comment s) h k = cc
 still_open path (end n foreign) h k = cc
 
 -- what follows without a break keeps what is due
-due_behind : (i : ℕ) (p : Past) (e : Event) (w : List Event) → path_after (path_behind p.path e) w ≡ [] → first_break_from i (past_behind p e) w ≡ None → Due (Some e) w
-due_behind i p e [] closed h = record { ends = λ k. absurd (still_open p.path e k closed); apart = λ k. refl }
-due_behind i p e (d ∷ w) closed h =
-    let s : Passes (past_behind p e) d = passes (past_behind p e) d (at_none i (point_at (past_behind p e) d) _ h).0 in
+due_after : (i : ℕ) (p : Past) (e : Event) (w : List Event) → path_after (path_after_event p.path e) w ≡ [] → first_break_from i (past_after p e) w ≡ None → Due (Some e) w
+due_after i p e [] closed h = record { ends = λ k. absurd (still_open p.path e k closed); apart = λ k. refl }
+due_after i p e (d ∷ w) closed h =
+    let s : Passes (past_after p e) d = passes (past_after p e) d (at_none i (point_at (past_after p e) d) _ h).0 in
     record {
-      ends = λ k. end_begins d w (implied (is_behind_void (Some e)) (is_end d) s.due k);
-      apart = λ k. text_begins d w ∙ no_second (is_behind_text (Some e)) (is_text d) (and_parts (is_text_in_place (path_behind p.path e) d []) (not (is_behind_text (Some e) && is_text d)) s.texts).1 k;
+      ends = λ k. end_begins d w (implied (is_after_void (Some e)) (is_end d) s.due k);
+      apart = λ k. text_begins d w ∙ no_second (is_after_text (Some e)) (is_text d) (and_parts (is_text_in_place (path_after_event p.path e) d []) (not (is_after_text (Some e) && is_text d)) s.texts).1 k;
     }
   where
     no_second : (a b : Bool) → not (a && b) ≡ true → a ≡ true → b ≡ false
     no_second true b h k = not-true b h
     no_second false b h k = cc
 
-ends_less : (path : List Element) (e : Event) (w : List Event) → ends_match path (e ∷ w) ≡ true → ends_match (path_behind path e) w ≡ true
+ends_less : (path : List Element) (e : Event) (w : List Event) → ends_match path (e ∷ w) ≡ true → ends_match (path_after_event path e) w ≡ true
 ends_less path (doctype legacy) w h = h
 ends_less path (start n foreign attributes) w h = h
 ends_less path (text s raw) w h = h
@@ -294,12 +294,12 @@ settled_from [] i p ends closed utf8 h = record {
     by true h = refl
     by false h = cc
 settled_from (e ∷ w) i p ends closed utf8 h =
-    let two = at_none i (point_at p e) (first_break_from (i + 1) (past_behind p e) w) h in
+    let two = at_none i (point_at p e) (first_break_from (i + 1) (past_after p e) w) h in
     let k : Passes p e = passes p e two.0 in
-    let u = and_parts (is_event_utf8 p.path e w) (all_events is_event_utf8 (path_behind p.path e) w) utf8 in
-    let s = settled_from w (i + 1) (past_behind p e) (ends_less p.path e w ends) closed u.1 two.1 in
-    let due : Due (Some e) w = due_behind (i + 1) p e w closed two.1 in
-    let texts = and_parts (is_text_in_place p.path e []) (not (is_behind_text p.before && is_text e)) k.texts in
+    let u = and_parts (is_event_utf8 p.path e w) (all_events is_event_utf8 (path_after_event p.path e) w) utf8 in
+    let s = settled_from w (i + 1) (past_after p e) (ends_less p.path e w ends) closed u.1 two.1 in
+    let due : Due (Some e) w = due_after (i + 1) p e w closed two.1 in
+    let texts = and_parts (is_text_in_place p.path e []) (not (is_after_text p.before && is_text e)) k.texts in
     record {
       ends = ends;
       closed = closed;
@@ -328,15 +328,15 @@ no_break_in (e ∷ w) i p s due =
       frame = frame.0;
       nesting = sym (nests_alone p.path e w) ∙ st.nesting;
       svg = sym (svg_alone p.path e w) ∙ st.svg;
-      due = ends_due (is_behind_void p.before) (λ h. begins_is_end e w (due.ends h));
-      texts = and_from _ _ (sym (text_alone p.path e w more.apart) ∙ st.texts) (no_second (is_behind_text p.before) (λ h. sym (text_begins e w) ∙ due.apart h));
+      due = ends_due (is_after_void p.before) (λ h. begins_is_end e w (due.ends h));
+      texts = and_from _ _ (sym (text_alone p.path e w more.apart) ∙ st.texts) (no_second (is_after_text p.before) (λ h. sym (text_begins e w) ∙ due.apart h));
       raw_texts = sym (raw_alone p.path e w) ∙ st.raw_texts;
       comments = sym (comment_alone p.path e w) ∙ st.comments;
       attributes = sym (attributes_alone p.path e w) ∙ st.attributes;
       depth = sym (depth_alone p.path e w) ∙ st.depth;
     } in
-    let s' = behind_event p.top p.frame p.path e w s (past_behind p e).top (past_behind p e).frame top.1 frame.1 in
-    ap (λ o. at_event i o (first_break_from (i + 1) (past_behind p e) w)) (no_point p e k) ∙ no_break_in w (i + 1) (past_behind p e) s' more
+    let s' = after_event p.top p.frame p.path e w s (past_after p e).top (past_after p e).frame top.1 frame.1 in
+    ap (λ o. at_event i o (first_break_from (i + 1) (past_after p e) w)) (no_point p e k) ∙ no_break_in w (i + 1) (past_after p e) s' more
   where
     ends_due : (b : Bool) → (b ≡ true → is_end e ≡ true) → not b || is_end e ≡ true
     ends_due true h = h refl

@@ -4,7 +4,7 @@ use Rattle.std.proofs.lemmas.Bool.{and_parts}
 use Rattle.std.proofs.lemmas.Bool.Decides.{nat_tests}
 use Rattle.std.proofs.lemmas.List.{append-nil, length_push}
 use Rattle.hm_base.specs.Bytes.{is_null}
-use Rattle.hm_base.specs.Walks.{Attribute, Event, doctype, start, text, comment, end, Element, path_behind, path_after, event_size, walk_size, attributes_size, with_text}
+use Rattle.hm_base.specs.Walks.{Attribute, Event, doctype, start, text, comment, end, Element, path_after_event, path_after, event_size, walk_size, attributes_size, with_text}
 use Rattle.hm_elements.specs.Paths.{is_deep}
 use Rattle.hm_elements.specs.Settled.{is_all_there, is_not_deep, is_text_in_place, is_raw_text, has_attributes_in_form}
 use Rattle.hm_tree.specs.Rows as rows
@@ -14,14 +14,14 @@ use Rattle.hm_tree.proofs.WalkLemmas.{path_after-push, walk_size-push}
 use Rattle.hm_tree.proofs.LastLemmas.{ends_in_text-push}
 use Rattle.hm_tree.proofs.TextLemmas.{with_text-push}
 use denote.Ref.{Bor}
-use Rattle.hm_json_tree.specs.Breaks.{Break, Past, past_behind, is_behind_text, point_at, at_event, first_break_from, first_break}
+use Rattle.hm_json_tree.specs.Breaks.{Break, Past, past_after, is_after_text, point_at, at_event, first_break_from, first_break}
 use Rattle.hm_json_tree.specs.Reading.{Listed, listed, bad_event, left_open, put_event, at_end, of_listed, unless_broken, walk, some_open, not_settled}
 use Rattle.hm_json_tree.specs.Forms.{told, HasAttributes, may_join, are_in_form}
 use Rattle.hm_json_tree.specs.Progress.{IsAt, put_events}
 use Rattle.hm_json_tree.specs.Seen.{IsSeen}
 use Rattle.hm_json_tree.specs.declared.reader.Reader.{Reader}
-use Rattle.hm_json_tree.specs.declared.form.Form.{Form}
-use Rattle.hm_json_tree.specs.declared.form.Form.TheVariants.{Doctype, Start, Text, Comment, End}
+use Rattle.hm_json_tree.specs.declared.form.JsonEvent.{JsonEvent}
+use Rattle.hm_json_tree.specs.declared.form.JsonEvent.TheVariants.{Doctype, Start, Text, Comment, End}
 use Rattle.hm_json_tree.proofs.NoBreak.{passes}
 
 -- ---- Events before others
@@ -67,7 +67,7 @@ module _ (r : Reader) (at : IsAt r) (closed : length r.path ≡ 0) where
 
 -- ---- One more event
 
-text_before : (e : Event) → is_behind_text (Some e) ≡ rows.is_text e
+text_before : (e : Event) → is_after_text (Some e) ≡ rows.is_text e
 text_before (doctype legacy) = refl
 text_before (start n f attributes) = refl
 text_before (text s raw) = refl
@@ -78,7 +78,7 @@ pub attributes_size-push : (attributes : List Attribute) (a : Attribute) → att
 attributes_size-push [] a = omega arith
 attributes_size-push (b ∷ attributes) a = omega (arith, attributes_size-push attributes a)
 
-deeper : (path : List Element) (e : Event) → length path ≤ 512 → is_not_deep path e [] ≡ true → length (path_behind path e) ≤ 512
+deeper : (path : List Element) (e : Event) → length path ≤ 512 → is_not_deep path e [] ≡ true → length (path_after_event path e) ≤ 512
 unfolding is_not_deep is_deep
 deeper path (doctype legacy) l h = l
 deeper path (start n f attributes) l h = grind (arith, nat_tests)
@@ -94,10 +94,10 @@ at_none i (Some n) more h = cc
 module _ (old : Reader) (e : Event) (at : IsAt old) where
   -- where the event breaks a rule, that is the first break
   pub stops : (k : ℕ) → point_at at.past e ≡ Some k → (w : List Event) → first_break (old.maker ++ e ∷ w) ≡ Some (record { event = length old.maker; point = k })
-  stops k h w = at.breaks (e ∷ w) ∙ ap (λ o. at_event (length old.maker) o (first_break_from (length old.maker + 1) (past_behind at.past e) w)) h
+  stops k h w = at.breaks (e ∷ w) ∙ ap (λ o. at_event (length old.maker) o (first_break_from (length old.maker + 1) (past_after at.past e) w)) h
 
   module _ (sound : point_at at.past e ≡ None) where
-    shallow : length (path_behind old.path e) ≤ 512
+    shallow : length (path_after_event old.path e) ≤ 512
     shallow =
         let s = passes at.past e sound in
         deeper old.path e at.shallow (subst (λ path. is_not_deep path e [] ≡ true) at.path_is s.depth)
@@ -106,22 +106,22 @@ module _ (old : Reader) (e : Event) (at : IsAt old) where
     pub has_room : old.events < 2 ^ 28 → walk_size old.maker + event_size e < 2 ^ 29 → HasRoom (old.maker ++ e ∷ [])
     has_room few bytes = record {
       events =
-          let p : path_after [] (old.maker ++ e ∷ []) ≡ path_behind old.path e = path_after-push [] old.maker e ∙ ap (λ path. path_behind path e) (sym at.opened) in
+          let p : path_after [] (old.maker ++ e ∷ []) ≡ path_after_event old.path e = path_after-push [] old.maker e ∙ ap (λ path. path_after_event path e) (sym at.opened) in
           omega (arith, few, at.count, length_push old.maker e, ap length p, shallow);
       bytes = omega (arith, bytes, walk_size-push old.maker e);
     }
 
-    pub goes_on : (new : Reader) → IsSeen new.seen (past_behind at.past e) → new.maker ≡ old.maker ++ e ∷ [] → new.path ≡ path_behind old.path e → new.bytes ≡ old.bytes + event_size e → new.bytes < 2 ^ 29 → new.events ≡ old.events + 1 → old.events < 2 ^ 28 → IsAt new
+    pub goes_on : (new : Reader) → IsSeen new.seen (past_after at.past e) → new.maker ≡ old.maker ++ e ∷ [] → new.path ≡ path_after_event old.path e → new.bytes ≡ old.bytes + event_size e → new.bytes < 2 ^ 29 → new.events ≡ old.events + 1 → old.events < 2 ^ 28 → IsAt new
     goes_on new seen maker path bytes room count few =
         let longer : length new.maker ≡ length old.maker + 1 = omega (arith, ap length maker, length_push old.maker e) in
         record {
-          past = past_behind at.past e;
+          past = past_after at.past e;
           seen = seen;
-          path_is = ap (λ p. path_behind p e) at.path_is ∙ sym path;
-          opened = path ∙ ap (λ p. path_behind p e) at.opened ∙ sym (ap (path_after []) maker ∙ path_after-push [] old.maker e);
+          path_is = ap (λ p. path_after_event p e) at.path_is ∙ sym path;
+          opened = path ∙ ap (λ p. path_after_event p e) at.opened ∙ sym (ap (path_after []) maker ∙ path_after-push [] old.maker e);
           breaks = λ w.
               ap (λ m. first_break (m ++ w)) maker ∙ ap first_break (append_assoc old.maker (e ∷ []) w) ∙ at.breaks (e ∷ w)
-              ∙ at_none (length old.maker) (point_at at.past e) _ sound ∙ ap (λ n. first_break_from n (past_behind at.past e) w) (sym longer);
+              ∙ at_none (length old.maker) (point_at at.past e) _ sound ∙ ap (λ n. first_break_from n (past_after at.past e) w) (sym longer);
           last = seen.text ∙ text_before e ∙ sym (ap ends_in_text maker ∙ ends_in_text-push old.maker e);
           shallow = rw path shallow;
           bytes = bytes ∙ ap (λ n. n + event_size e) at.bytes ∙ sym (ap walk_size maker ∙ walk_size-push old.maker e);
@@ -131,7 +131,7 @@ module _ (old : Reader) (e : Event) (at : IsAt old) where
         }
 
 -- a text that breaks no rule may be put to the others
-pub joins : (path : List Element) (f : Form) (p : Past) (w : List Event) → point_at p (told path f) ≡ None → p.path ≡ path → is_behind_text p.before ≡ ends_in_text w → may_join f w ≡ true
+pub joins : (path : List Element) (f : JsonEvent) (p : Past) (w : List Event) → point_at p (told path f) ≡ None → p.path ≡ path → is_after_text p.before ≡ ends_in_text w → may_join f w ≡ true
 unfolding is_text_in_place
 joins path (Doctype legacy) p w h q l = refl
 joins path (Start n attributes) p w h q l = refl
@@ -139,7 +139,7 @@ joins path (Text s) p w h q l =
     let s' = passes p (told path (Text s)) h in
     let two = and_parts _ _ s'.texts in
     let some = (and_parts _ _ (and_parts _ _ (and_parts _ _ (and_parts _ _ two.0).0).0).0).0 in
-    by (is_behind_text p.before) (ends_in_text w) some two.1 l
+    by (is_after_text p.before) (ends_in_text w) some two.1 l
   where
     by : (a b : Bool) → not (is_null s.now) ≡ true → not (a && true) ≡ true → a ≡ b → not (is_null s.now) && not b ≡ true
     by true b k h e = cc
@@ -176,7 +176,7 @@ raw_agrees (x ∷ y ∷ w) raw h = raw_agrees (y ∷ w) raw h
 -- ---- Events that aren't asked for
 
 module _ (path : List Element) where
-  pub raw_other : (f : Form) → ((s : Bor (List ℕ)) → f ≡ Text s → ⊥) → true ≡ is_raw_text path (told path f) []
+  pub raw_other : (f : JsonEvent) → ((s : Bor (List ℕ)) → f ≡ Text s → ⊥) → true ≡ is_raw_text path (told path f) []
   unfolding is_raw_text
   raw_other (Doctype legacy) other = refl
   raw_other (Start n attributes) other = refl
@@ -188,7 +188,7 @@ module _ (path : List Element) where
   unfolding is_raw_text
   not_raw s raw h = rw h refl
 
-  pub attributes_other : (f : Form) → ((n : Bor (List ℕ)) (attributes : List Attribute) → f ≡ Start n attributes → ⊥) → true ≡ has_attributes_in_form path (told path f) []
+  pub attributes_other : (f : JsonEvent) → ((n : Bor (List ℕ)) (attributes : List Attribute) → f ≡ Start n attributes → ⊥) → true ≡ has_attributes_in_form path (told path f) []
   unfolding has_attributes_in_form
   attributes_other (Doctype legacy) other = refl
   attributes_other (Start n attributes) other = absurd (other n attributes refl)
@@ -200,7 +200,7 @@ module _ (path : List Element) where
   unfolding has_attributes_in_form
   start_in_form n attributes = refl
 
-pub none_asked : (f : Form) (attributes : List Attribute) → ((n : Bor (List ℕ)) (own : List Attribute) → f ≡ Start n own → ⊥) → HasAttributes f attributes
+pub none_asked : (f : JsonEvent) (attributes : List Attribute) → ((n : Bor (List ℕ)) (own : List Attribute) → f ≡ Start n own → ⊥) → HasAttributes f attributes
 none_asked (Doctype legacy) attributes other = tt
 none_asked (Start n own) attributes other = absurd (other n own refl)
 none_asked (Text s) attributes other = tt

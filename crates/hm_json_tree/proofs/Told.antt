@@ -16,13 +16,13 @@ use Rattle.hm_elements.specs.Settled.{nests, is_svg_in_place, is_comment_in_form
 use Rattle.hm_elements.proofs.TableTools.{same_bytes, eq_self}
 use Rattle.hm_json_tree.specs.Reading.{is_svg_here}
 use Rattle.hm_json_tree.specs.Forms.{are_in_form, told}
-use Rattle.hm_json_tree.specs.declared.form.Form.{Form}
-use Rattle.hm_json_tree.specs.declared.form.Form.TheVariants.{Doctype, Start, Text, Comment, End}
+use Rattle.hm_json_tree.specs.declared.form.JsonEvent.{JsonEvent}
+use Rattle.hm_json_tree.specs.declared.form.JsonEvent.TheVariants.{Doctype, Start, Text, Comment, End}
 
 -- ---- Events that a rule doesn't ask for
 
 module _ (path : List Element) where
-  pub nests_other : (f : Form) → ((n : Bor (List ℕ)) (attributes : List Attribute) → f ≡ Start n attributes → ⊥) → true ≡ nests path (told path f) []
+  pub nests_other : (f : JsonEvent) → ((n : Bor (List ℕ)) (attributes : List Attribute) → f ≡ Start n attributes → ⊥) → true ≡ nests path (told path f) []
   unfolding nests
   nests_other (Doctype legacy) other = refl
   nests_other (Start n attributes) other = absurd (other n attributes refl)
@@ -30,7 +30,7 @@ module _ (path : List Element) where
   nests_other (Comment s) other = refl
   nests_other End other = refl
 
-  pub svg_other : (f : Form) → ((n : Bor (List ℕ)) (attributes : List Attribute) → f ≡ Start n attributes → ⊥) → true ≡ is_svg_in_place path (told path f) []
+  pub svg_other : (f : JsonEvent) → ((n : Bor (List ℕ)) (attributes : List Attribute) → f ≡ Start n attributes → ⊥) → true ≡ is_svg_in_place path (told path f) []
   unfolding is_svg_in_place
   svg_other (Doctype legacy) other = refl
   svg_other (Start n attributes) other = absurd (other n attributes refl)
@@ -38,7 +38,7 @@ module _ (path : List Element) where
   svg_other (Comment s) other = refl
   svg_other End other = refl
 
-  pub deep_other : (f : Form) → ((n : Bor (List ℕ)) (attributes : List Attribute) → f ≡ Start n attributes → ⊥) → true ≡ is_not_deep path (told path f) []
+  pub deep_other : (f : JsonEvent) → ((n : Bor (List ℕ)) (attributes : List Attribute) → f ≡ Start n attributes → ⊥) → true ≡ is_not_deep path (told path f) []
   unfolding is_not_deep
   deep_other (Doctype legacy) other = refl
   deep_other (Start n attributes) other = absurd (other n attributes refl)
@@ -46,7 +46,7 @@ module _ (path : List Element) where
   deep_other (Comment s) other = refl
   deep_other End other = refl
 
-  pub comment_other : (f : Form) → ((s : Bor (List ℕ)) → f ≡ Comment s → ⊥) → true ≡ is_comment_in_form path (told path f) []
+  pub comment_other : (f : JsonEvent) → ((s : Bor (List ℕ)) → f ≡ Comment s → ⊥) → true ≡ is_comment_in_form path (told path f) []
   unfolding is_comment_in_form
   comment_other (Doctype legacy) other = refl
   comment_other (Start n attributes) other = refl

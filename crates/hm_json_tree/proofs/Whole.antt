@@ -2,7 +2,7 @@
 use Rattle.std.proofs.Common.{◌≡◌, ℕ, zero, suc, ◌+◌, ◌-◌, ◌<◌, ◌≤◌, nat_lt, Bool, true, false, cond, ◌&&◌, List, [], ◌∷◌, ◌++◌, length, drop, get_or, Option, Some, None, refl, sym, ap, ◌∙◌, arith, drop-cons}
 use Rattle.std.proofs.lemmas.Bool.{and_parts, and_from}
 use Rattle.std.specs.Str.{is_utf8}
-use Rattle.hm_base.specs.Walks.{Attribute, Event, doctype, start, text, comment, end, Element, path_behind, has_distinct_names}
+use Rattle.hm_base.specs.Walks.{Attribute, Event, doctype, start, text, comment, end, Element, path_after_event, has_distinct_names}
 use Rattle.hm_elements.specs.Settled.{all_events, all_utf8, is_event_utf8}
 use Rattle.hm_tree.specs.Attributes.{are_texts}
 use Rattle.hm_tree.specs.Trees.{are_sound}
@@ -12,7 +12,7 @@ use Rattle.serde_json.specs.View.{view, items_view}
 use Rattle.serde_json.specs.declared.value.Value.{Value}
 use Rattle.hm_refs.specs.Json.{json}
 use Rattle.hm_json_tree.specs.declared.limits.TheConstants.{JSON_LIMIT}
-use Rattle.hm_json_tree.specs.declared.form.Form.TheVariants.{End}
+use Rattle.hm_json_tree.specs.declared.form.JsonEvent.TheVariants.{End}
 use Rattle.hm_json_tree.specs.Forms.{event_told}
 use Rattle.hm_json_tree.specs.Reading.{Listed, listed, bad_event, left_open, put_event, with_event, event_in, events_in, at_end, too_long, no_event, some_open, not_settled, of_listed, unless_broken, of_array, of_value, json_walk}
 use Rattle.hm_json_tree.specs.Breaks.{first_break}
@@ -67,10 +67,10 @@ sound_utf8 (m ∷ path) (end n f ∷ w) h = sound_utf8 path w (and_parts (is_utf
 
 -- the items from one on, by whether it is an event
 one_item : (vs : List Value) (i : ℕ) (path : List Element) (v : Value) (o : Option Event) → v ≡ get_or vs i v → i < length vs → event_in path (view v) ≡ o
-    → events_in i path (items_view (drop i vs)) ≡ with_event i o (λ e. events_in (i + 1) (path_behind path e) (items_view (drop (i + 1) vs)))
+    → events_in i path (items_view (drop i vs)) ≡ with_event i o (λ e. events_in (i + 1) (path_after_event path e) (items_view (drop (i + 1) vs)))
 one_item vs i path v o at l h =
     let next : suc i ≡ i + 1 = omega arith in
-    rw (drop-cons vs i v l, ← at) (ap (λ x. with_event i x (λ e. events_in (i + 1) (path_behind path e) (items_view (drop (suc i) vs)))) h ∙ ap (λ k. with_event i o (λ e. events_in (i + 1) (path_behind path e) (items_view (drop k vs)))) next)
+    rw (drop-cons vs i v l, ← at) (ap (λ x. with_event i x (λ e. events_in (i + 1) (path_after_event path e) (items_view (drop (suc i) vs)))) h ∙ ap (λ k. with_event i o (λ e. events_in (i + 1) (path_after_event path e) (items_view (drop k vs)))) next)
 
 -- none before the first item
 pub follows_none : (vs : List Value) (i : ℕ) (path : List Element) (n : ℕ) → length path ≡ n → Follows vs i path i n
@@ -82,12 +82,12 @@ module _ (vs : List Value) (from : ℕ) (path : List Element) (i depth : ℕ) (f
   follows_bad h w = ap of_listed (ap (put_events w) (f.listed_is ∙ ap (put_events f.events) (one_item vs i f.now_open v None at l h) ∙ put_events-bad f.events i) ∙ put_events-bad w i)
 
   -- one more event
-  pub follows_more : (n : ℕ) → (e : Event) × (event_in f.now_open (view v) ≡ Some e) × (length (path_behind f.now_open e) ≡ n) → Follows vs from path (i + 1) n
+  pub follows_more : (n : ℕ) → (e : Event) × (event_in f.now_open (view v) ≡ Some e) × (length (path_after_event f.now_open e) ≡ n) → Follows vs from path (i + 1) n
   follows_more n h = record {
     events = f.events ++ h.0 ∷ [];
-    now_open = path_behind f.now_open h.0;
+    now_open = path_after_event f.now_open h.0;
     depth_is = h.2;
-    listed_is = f.listed_is ∙ ap (put_events f.events) (one_item vs i f.now_open v (Some h.0) at l h.1) ∙ sym (put_events-push f.events h.0 (events_in (i + 1) (path_behind f.now_open h.0) (items_view (drop (i + 1) vs))));
+    listed_is = f.listed_is ∙ ap (put_events f.events) (one_item vs i f.now_open v (Some h.0) at l h.1) ∙ sym (put_events-push f.events h.0 (events_in (i + 1) (path_after_event f.now_open h.0) (items_view (drop (i + 1) vs))));
   }
 
 no_items_left : (vs : List Value) (i : ℕ) (path : List Element) → length vs ≤ i → events_in i path (items_view (drop i vs)) ≡ at_end path
@@ -124,10 +124,10 @@ listed_first e (left_open n) x h = cc
 
 -- ---- What an item changes in how many elements are open
 
-pub opens_one : (path : List Element) (o : Option Event) (n : List ℕ) (f : Bool) (attributes : List Attribute) → o ≡ Some (start n f attributes) → (e : Event) × (o ≡ Some e) × (length (path_behind path e) ≡ length path + 1)
+pub opens_one : (path : List Element) (o : Option Event) (n : List ℕ) (f : Bool) (attributes : List Attribute) → o ≡ Some (start n f attributes) → (e : Event) × (o ≡ Some e) × (length (path_after_event path e) ≡ length path + 1)
 opens_one path o n f attributes h = (start n f attributes, h, omega arith)
 
-pub closes_one : (path : List Element) (o : Option Event) → o ≡ event_told path End → 0 < length path → (e : Event) × (o ≡ Some e) × (length (path_behind path e) ≡ length path - 1)
+pub closes_one : (path : List Element) (o : Option Event) → o ≡ event_told path End → 0 < length path → (e : Event) × (o ≡ Some e) × (length (path_after_event path e) ≡ length path - 1)
 closes_one [] o h l = absurd (omega (arith, l))
 closes_one (m ∷ path) o h l = (end m.name m.foreign, h, omega arith)
 
@@ -137,8 +137,8 @@ module _ (vs : List Value) (i : ℕ) (w : List Event) (path : List Element) (so_
   pub read_bad : (v : Value) → v ≡ get_or vs i v → i < length vs → event_in path (view v) ≡ None → of_listed (events_in 0 [] (items_view vs)) ≡ no_event i
   read_bad v at l h = ap of_listed (so_far ∙ ap (put_events w) (one_item vs i path v None at l h) ∙ put_events-bad w i)
 
-  pub read_more : (v : Value) (e : Event) → v ≡ get_or vs i v → i < length vs → event_in path (view v) ≡ Some e → AreListed vs (i + 1) (w ++ e ∷ []) (path_behind path e)
-  read_more v e at l h = so_far ∙ ap (put_events w) (one_item vs i path v (Some e) at l h) ∙ sym (put_events-push w e (events_in (i + 1) (path_behind path e) (items_view (drop (i + 1) vs))))
+  pub read_more : (v : Value) (e : Event) → v ≡ get_or vs i v → i < length vs → event_in path (view v) ≡ Some e → AreListed vs (i + 1) (w ++ e ∷ []) (path_after_event path e)
+  read_more v e at l h = so_far ∙ ap (put_events w) (one_item vs i path v (Some e) at l h) ∙ sym (put_events-push w e (events_in (i + 1) (path_after_event path e) (items_view (drop (i + 1) vs))))
 
   pub read_end : length vs ≤ i → events_in 0 [] (items_view vs) ≡ put_events w (at_end path)
   read_end l = so_far ∙ ap (put_events w) (no_items_left vs i path l)
@@ -147,5 +147,5 @@ module _ (vs : List Value) (i : ℕ) (w : List Event) (path : List Element) (so_
   pub read_broken : (v : Value) (e : Event) (k : ℕ) → v ≡ get_or vs i v → i < length vs → event_in path (view v) ≡ Some e → i ≡ length w → ((x : List Event) → first_break (w ++ e ∷ x) ≡ Some (record { event = length w; point = k }))
       → (x : List Event) → events_in i path (items_view (drop i vs)) ≡ listed x → of_listed (events_in 0 [] (items_view vs)) ≡ not_settled (record { event = i; point = k })
   read_broken v e k at l h count breaks x all =
-      let first = listed_first e (events_in (i + 1) (path_behind path e) (items_view (drop (i + 1) vs))) x (sym (one_item vs i path v (Some e) at l h) ∙ all) in
+      let first = listed_first e (events_in (i + 1) (path_after_event path e) (items_view (drop (i + 1) vs))) x (sym (one_item vs i path v (Some e) at l h) ∙ all) in
       ap of_listed (so_far ∙ ap (put_events w) all ∙ put_events-listed w x) ∙ ap (λ b. unless_broken b (w ++ x)) (ap (λ y. first_break (w ++ y)) first.1 ∙ breaks first.0) ∙ ap (λ n. not_settled (record { event = n; point = k })) (sym count)

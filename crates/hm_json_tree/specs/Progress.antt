@@ -8,7 +8,7 @@ use Rattle.hm_json_tree.specs.Breaks.{Past, first_break, first_break_from}
 use Rattle.hm_json_tree.specs.Reading.{Listed, put_event, events_in, JsonWalk, too_long, not_json, not_array, no_event, some_open, not_settled}
 use Rattle.hm_json_tree.specs.Seen.{IsSeen}
 use Rattle.hm_json_tree.specs.declared.fault.JsonFault.{JsonFault}
-use Rattle.hm_json_tree.specs.declared.fault.JsonFault.TheVariants.{TooLong, NotJson, NotArray, BadEvent, Open, NotSettled, Memory}
+use Rattle.hm_json_tree.specs.declared.fault.JsonFault.TheVariants.{TooLong, NotJson, NotArray, BadEvent, Open, NotSettled, OutOfMemory}
 use Rattle.hm_json_tree.specs.declared.reader.Reader.{Reader}
 
 -- what a fault says of the bytes; want of memory says nothing
@@ -19,7 +19,7 @@ fault_walk NotArray = not_array
 fault_walk (BadEvent i) = no_event i
 fault_walk (Open n) = some_open n
 fault_walk (NotSettled i k) = not_settled (record { event = i; point = k })
-fault_walk Memory = too_long
+fault_walk OutOfMemory = too_long
 
 -- events before those of a list
 abbrev pub put_events : List Event → Listed → Listed

@@ -4,7 +4,7 @@
 use Rattle.std.specs.Prelude.{ℕ, suc, ◌+◌, Bool, true, false, ◌||◌, nat_lt, List, [], ◌∷◌, length, Option, Some, None, option_map, option_and_then, if◌then◌else◌, bytes_eq, codes}
 use Rattle.serde_json.specs.Data.{Data, string, array, Items, no_items, item}
 use Rattle.serde_json.specs.Find.{as_array}
-use Rattle.hm_base.specs.Walks.{Attribute, Event, doctype, start, text, comment, end, Element, path_behind}
+use Rattle.hm_base.specs.Walks.{Attribute, Event, doctype, start, text, comment, end, Element, path_after_event}
 use Rattle.hm_elements.specs.Names.{svg}
 use Rattle.hm_elements.specs.Paths.{is_in_svg, is_in_raw}
 use Rattle.hm_refs.specs.Json.{json}
@@ -80,7 +80,7 @@ at_end (e ∷ path) = left_open (suc (length path))
 
 abbrev pub events_in : ℕ → List Element → Items → Listed
 events_in i path no_items = at_end path
-events_in i path (item d ds) = with_event i (event_in path d) (λ e. events_in (i + 1) (path_behind path e) ds)
+events_in i path (item d ds) = with_event i (event_in path d) (λ e. events_in (i + 1) (path_after_event path e) ds)
 
 -- ---- The bytes
 

@@ -1,7 +1,7 @@
 -- What a reader keeps of the events before one.
 use Rattle.std.specs.Prelude.{◌≡◌}
 use Rattle.hm_elements.specs.Settled as settled
-use Rattle.hm_json_tree.specs.Breaks.{Past, is_behind_void, is_behind_text}
+use Rattle.hm_json_tree.specs.Breaks.{Past, is_after_void, is_after_text}
 use Rattle.hm_json_tree.specs.declared.seen.Top.{Top}
 use Rattle.hm_json_tree.specs.declared.seen.Top.TheVariants.{NoDoctype, NoHtml, AllThere}
 use Rattle.hm_json_tree.specs.declared.seen.Frame.{Frame}
@@ -24,5 +24,5 @@ frame_of HasBody = settled.has_body
 pub record IsSeen (seen : Seen) (past : Past) : Type 0 where
   pub top : top_of seen.top ≡ past.top
   pub frame : frame_of seen.frame ≡ past.frame
-  pub void : seen.void ≡ is_behind_void past.before
-  pub text : seen.text ≡ is_behind_text past.before
+  pub void : seen.void ≡ is_after_void past.before
+  pub text : seen.text ≡ is_after_text past.before

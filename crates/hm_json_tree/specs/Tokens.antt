@@ -5,13 +5,13 @@ use Rattle.json.specs.Json as json
 use Rattle.json.specs.Json.{after_end_array, items, value}
 use Rattle.serde_json.specs.Data.{Data, string, array, Items, no_items, item}
 use Rattle.serde_json.specs.Read.{of_items}
-use Rattle.hm_base.specs.Walks.{Attribute, Event, Element, path_behind}
+use Rattle.hm_base.specs.Walks.{Attribute, Event, Element, path_after_event}
 use Rattle.hm_refs.specs.Ordered.{Begins}
 use Rattle.hm_json_tree.specs.Reading.{attribute_data, attributes_data, doctype_name, kind_data, events_in, listed, of_listed, JsonWalk}
 use Rattle.hm_json_tree.specs.Forms.{event_told}
 use Rattle.hm_json_tree.specs.Progress.{put_events}
-use Rattle.hm_json_tree.specs.declared.form.Form.{Form}
-use Rattle.hm_json_tree.specs.declared.form.Form.TheVariants.{Doctype, Start, Text, Comment, End}
+use Rattle.hm_json_tree.specs.declared.form.JsonEvent.{JsonEvent}
+use Rattle.hm_json_tree.specs.declared.form.JsonEvent.TheVariants.{Doctype, Start, Text, Comment, End}
 
 -- ---- Tokens that stand for data; `new` follows them
 
@@ -32,7 +32,7 @@ ArePairs old attributes new = Begins 125 old (array (attributes_data attributes)
 
 -- ---- Items that say an event
 
-abbrev pub kind_of : Form → List ℕ
+abbrev pub kind_of : JsonEvent → List ℕ
 kind_of (Doctype legacy) = codes "doctype"
 kind_of (Start n attributes) = codes "start"
 kind_of (Text s) = codes "text"
@@ -40,21 +40,21 @@ kind_of (Comment s) = codes "comment"
 kind_of End = codes "end"
 
 -- what stands after the kind
-abbrev pub said : Form → Items
+abbrev pub said : JsonEvent → Items
 said (Doctype legacy) = item (string (doctype_name legacy)) no_items
 said (Start n attributes) = item (string n.now) (item (array (attributes_data attributes)) no_items)
 said (Text s) = item (string s.now) no_items
 said (Comment s) = item (string s.now) no_items
 said End = no_items
 
-abbrev pub form_data : Form → Data
+abbrev pub form_data : JsonEvent → Data
 form_data f = kind_data (kind_of f) (said f)
 
 -- what stands after the kind, where a bracket closes it
-abbrev pub Says : List ℕ → List Token → Form → List Token → Type 0
+abbrev pub Says : List ℕ → List Token → JsonEvent → List Token → Type 0
 Says kind old f new = (kind ≡ kind_of f) × ((last : List Token) → after_end_array new ≡ Some last → Lists 125 old (said f) last)
 
-abbrev pub IsItem : List Token → Form → List Token → Type 0
+abbrev pub IsItem : List Token → JsonEvent → List Token → Type 0
 IsItem old f new = Begins 126 old (form_data f) new
 
 -- ---- Arrays of events
@@ -81,7 +81,7 @@ Passed old opened depth new = (ds : Items) (last : List Token) → Lists 126 new
 
 -- the next item is an event, and so many elements are open after it
 abbrev pub PassesOne : List Token → ℕ → ℕ → List Token → Type 0
-PassesOne old depth next new = (f : Form) × IsItem old f new × ((path : List Element) → length path ≡ depth → (e : Event) × (event_told path f ≡ Some e) × (length (path_behind path e) ≡ next))
+PassesOne old depth next new = (f : JsonEvent) × IsItem old f new × ((path : List Element) → length path ≡ depth → (e : Event) × (event_told path f ≡ Some e) × (length (path_after_event path e) ≡ next))
 
 -- all items are events, after which no element is open
 abbrev pub Passes : List Token → ℕ → Type 0

@@ -7,7 +7,7 @@ ghost use Rattle.hm_json_tree.specs.Forms.{are_in_form};
 
 use crate::pairs::Pairs;
 use crate::texts::{has_byte, is_attribute_name};
-use hm_base::{ATTRIBUTE_LIMIT, Memory};
+use hm_base::{ATTRIBUTE_LIMIT, OutOfMemory};
 use hm_tree::Attrs;
 use std::alloc::Global;
 
@@ -25,7 +25,7 @@ pub(crate) fn have_zero(pairs: &Pairs<'_>) -> bool
 }
 
 /// The attributes, unless they are more than may be written in a tag, or a name is repeated or can't be written.
-pub(crate) fn attributes_of(alloc: Global, pairs: &Pairs<'_>) -> Result<Option<Attrs>, Memory>
+pub(crate) fn attributes_of(alloc: Global, pairs: &Pairs<'_>) -> Result<Option<Attrs>, OutOfMemory>
     ensures { IfOk result (λ made. MatchOption made (are_in_form pairs.now ≡ false)
         (λ attrs. (attrs ≡ pairs.now) × (are_in_form pairs.now ≡ true))) }
 {
@@ -52,7 +52,7 @@ fn kept(attrs: Attrs, all: bool) -> Option<Attrs>
 
 /// Puts all pairs where no attribute is yet, up to one whose name is repeated or can't be written.
 #[inline(always)]
-fn put_all(attrs: &mut Attrs, pairs: &Pairs<'_>) -> Result<bool, Memory>
+fn put_all(attrs: &mut Attrs, pairs: &Pairs<'_>) -> Result<bool, OutOfMemory>
     requires none { attrs.old ≡ [] }
     requires few { length pairs.now ≤ ATTRIBUTE_LIMIT }
     ensures all { IfOk result (λ put. put ≡ true → (attrs.new ≡ pairs.now) × (all_names_in_form pairs.now ≡ true)) }

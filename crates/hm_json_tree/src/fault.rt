@@ -1,5 +1,5 @@
 //! Why bytes are no tree.
-use hm_base::Memory;
+use hm_base::OutOfMemory;
 use std::alloc::AllocError;
 use thiserror::Error;
 
@@ -26,17 +26,17 @@ pub enum JsonFault {
     NotSettled { event: u32, point: u8 },
     /// Memory was refused.
     #[error("Memory")]
-    Memory,
+    OutOfMemory,
 }
 
-impl From<Memory> for JsonFault {
+impl From<OutOfMemory> for JsonFault {
     ghost use Rattle.std.specs.Prelude.{◌≡◌};
     ghost use Rattle.hm_json_tree.specs.declared.fault.JsonFault.TheVariants as faults;
 
-    ghost from_gives = { λ _ fault. fault ≡ faults.Memory };
+    ghost from_gives = { λ _ fault. fault ≡ faults.OutOfMemory };
 
-    fn from(_refused: Memory) -> JsonFault {
-        JsonFault::Memory
+    fn from(_refused: OutOfMemory) -> JsonFault {
+        JsonFault::OutOfMemory
     }
 }
 
@@ -44,9 +44,9 @@ impl From<AllocError> for JsonFault {
     ghost use Rattle.std.specs.Prelude.{◌≡◌};
     ghost use Rattle.hm_json_tree.specs.declared.fault.JsonFault.TheVariants as faults;
 
-    ghost from_gives = { λ _ fault. fault ≡ faults.Memory };
+    ghost from_gives = { λ _ fault. fault ≡ faults.OutOfMemory };
 
     fn from(_refused: AllocError) -> JsonFault {
-        JsonFault::Memory
+        JsonFault::OutOfMemory
     }
 }

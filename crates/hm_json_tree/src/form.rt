@@ -2,18 +2,18 @@
 ghost use Rattle.std.specs.Prelude.{◌≡◌, ◌∷◌, length, List, Some, None, IfOk, IfSome, MatchOption, is_some, option_map, option_and_then};
 ghost use Rattle.serde_json.specs.Data.{array, item, no_items};
 ghost use Rattle.serde_json.specs.View.{items_view, view};
-ghost use Rattle.hm_base.specs.Walks.{Element, Event, path_behind};
+ghost use Rattle.hm_base.specs.Walks.{Element, Event, path_after_event};
 ghost use Rattle.hm_json_tree.specs.Forms.{event_told};
 ghost use Rattle.hm_json_tree.specs.Pairs.{attribute_at};
 ghost use Rattle.hm_json_tree.specs.Reading as reading;
 
 use crate::pairs::Pairs;
-use hm_base::Memory;
+use hm_base::OutOfMemory;
 use serde_json::Value;
 
 /// What an item says of an event.
 #[derive(Drop)]
-pub(crate) enum Form<'v> {
+pub(crate) enum JsonEvent<'v> {
     Doctype { legacy: bool },
     Start { name: &'v str, attrs: Pairs<'v> },
     Text { text: &'v str },
@@ -22,7 +22,7 @@ pub(crate) enum Form<'v> {
 }
 
 /// The event that an item stands for, if it is one.
-pub(crate) fn form_of(item: &Value) -> Option<Form<'_>>
+pub(crate) fn form_of(item: &Value) -> Option<JsonEvent<'_>>
     ensures { (path : List Element) → reading.event_in path (view item.now) ≡ option_and_then (event_told path) result }
 {
     match item.as_array()?.as_slice() {
@@ -32,7 +32,7 @@ pub(crate) fn form_of(item: &Value) -> Option<Form<'_>>
 }
 
 /// The event of a kind that these say more of.
-fn form_of_kind<'v>(kind: &str, rest: &'v [Value]) -> Option<Form<'v>>
+fn form_of_kind<'v>(kind: &str, rest: &'v [Value]) -> Option<JsonEvent<'v>>
     ensures { (path : List Element) → reading.event_of_kind kind.now path (items_view rest.now) ≡ option_and_then (event_told path) result }
 {
     match kind {
@@ -45,13 +45,13 @@ fn form_of_kind<'v>(kind: &str, rest: &'v [Value]) -> Option<Form<'v>>
     }
 }
 
-fn doctype_in(rest: &[Value]) -> Option<Form<'_>>
+fn doctype_in(rest: &[Value]) -> Option<JsonEvent<'_>>
     ensures { (path : List Element) → reading.doctype_in (items_view rest.now) ≡ option_and_then (event_told path) result }
 {
     match rest {
         [word] => match word.as_str()? {
-            "plain" => Some(Form::Doctype { legacy: false }),
-            "legacy" => Some(Form::Doctype { legacy: true }),
+            "plain" => Some(JsonEvent::Doctype { legacy: false }),
+            "legacy" => Some(JsonEvent::Doctype { legacy: true }),
             _ => None,
         },
         [] => None,
@@ -59,7 +59,7 @@ fn doctype_in(rest: &[Value]) -> Option<Form<'_>>
     }
 }
 
-fn start_in(rest: &[Value]) -> Option<Form<'_>>
+fn start_in(rest: &[Value]) -> Option<JsonEvent<'_>>
     ensures { (path : List Element) → reading.start_in path (items_view rest.now) ≡ option_and_then (event_told path) result }
 {
     match rest {
@@ -67,7 +67,7 @@ fn start_in(rest: &[Value]) -> Option<Form<'_>>
             let name = name.as_str()?;
             let attrs = attrs.as_array()?.as_slice();
             if are_pairs(attrs) {
-                Some(Form::Start {
+                Some(JsonEvent::Start {
                     name,
                     attrs: Pairs::of_items(attrs),
                 })
@@ -81,11 +81,11 @@ fn start_in(rest: &[Value]) -> Option<Form<'_>>
     }
 }
 
-fn text_in(rest: &[Value]) -> Option<Form<'_>>
+fn text_in(rest: &[Value]) -> Option<JsonEvent<'_>>
     ensures { (path : List Element) → reading.text_in path (items_view rest.now) ≡ option_and_then (event_told path) result }
 {
     match rest {
-        [text] => Some(Form::Text {
+        [text] => Some(JsonEvent::Text {
             text: text.as_str()?,
         }),
         [] => None,
@@ -93,11 +93,11 @@ fn text_in(rest: &[Value]) -> Option<Form<'_>>
     }
 }
 
-fn comment_in(rest: &[Value]) -> Option<Form<'_>>
+fn comment_in(rest: &[Value]) -> Option<JsonEvent<'_>>
     ensures { (path : List Element) → reading.comment_in (items_view rest.now) ≡ option_and_then (event_told path) result }
 {
     match rest {
-        [text] => Some(Form::Comment {
+        [text] => Some(JsonEvent::Comment {
             text: text.as_str()?,
         }),
         [] => None,
@@ -105,11 +105,11 @@ fn comment_in(rest: &[Value]) -> Option<Form<'_>>
     }
 }
 
-fn end_in(rest: &[Value]) -> Option<Form<'_>>
+fn end_in(rest: &[Value]) -> Option<JsonEvent<'_>>
     ensures { (path : List Element) → reading.end_in path (items_view rest.now) ≡ option_and_then (event_told path) result }
 {
     match rest {
-        [] => Some(Form::End),
+        [] => Some(JsonEvent::End),
         [_, ..] => None,
     }
 }
@@ -157,23 +157,23 @@ pub(crate) fn pair_of(item: &Value) -> (&str, &str)
 }
 
 /// How many elements are open after an event. Where none is open, there is no end.
-pub(crate) fn depth_after(form: &Form<'_>, depth: u32) -> Result<Option<u32>, Memory>
+pub(crate) fn depth_after(form: &JsonEvent<'_>, depth: u32) -> Result<Option<u32>, OutOfMemory>
     ensures { IfOk result (λ next. (path : List Element) → length path ≡ depth → MatchOption next (event_told path form.now ≡ None)
-        (λ n. (e : Event) × (event_told path form.now ≡ Some e) × (length (path_behind path e) ≡ n))) }
+        (λ n. (e : Event) × (event_told path form.now ≡ Some e) × (length (path_after_event path e) ≡ n))) }
 {
     match form {
-        Form::Start { .. } => if depth == u32::MAX {
-            Err(Memory)
+        JsonEvent::Start { .. } => if depth == u32::MAX {
+            Err(OutOfMemory)
         } else {
             Ok(Some(depth + 1))
         },
-        Form::End => if depth == 0 {
+        JsonEvent::End => if depth == 0 {
             Ok(None)
         } else {
             Ok(Some(depth - 1))
         },
-        Form::Doctype { .. } => Ok(Some(depth)),
-        Form::Text { .. } => Ok(Some(depth)),
-        Form::Comment { .. } => Ok(Some(depth)),
+        JsonEvent::Doctype { .. } => Ok(Some(depth)),
+        JsonEvent::Text { .. } => Ok(Some(depth)),
+        JsonEvent::Comment { .. } => Ok(Some(depth)),
     }
 }

@@ -2,7 +2,7 @@
 ghost use Rattle.std.specs.Prelude.{◌≡◌, ◌+◌, ◌^◌, ◌<◌, [], ◌∷◌, ◌++◌, true, length, List, Some, None, IfOk, IfErr, IfSome, OnOk, MatchOption, is_some, ◌≢◌};
 ghost use Rattle.serde_json.specs.View.{view};
 ghost use Rattle.hm_base.specs.Walks as walks;
-ghost use Rattle.hm_base.specs.Walks.{Element, Event, attributes_size, event_size, path_after, path_behind};
+ghost use Rattle.hm_base.specs.Walks.{Element, Event, attributes_size, event_size, path_after, path_after_event};
 ghost use Rattle.hm_elements.specs.Settled as settled;
 ghost use Rattle.hm_tree.specs.Trees.{HasRoom};
 ghost use Rattle.hm_json_tree.specs.Breaks.{Past, first_break, point_at};
@@ -14,13 +14,13 @@ ghost use Rattle.hm_json_tree.specs.Seen.{IsSeen};
 
 use crate::JsonFault;
 use crate::attributes::attributes_of;
-use crate::form::{Form, form_of};
+use crate::form::{JsonEvent, form_of};
 use crate::rules::{is_foreign, point_of};
 use crate::seen::{Seen, Top};
 use crate::texts::{ends_raw, has_byte};
-use hm_base::Memory;
+use hm_base::OutOfMemory;
 use hm_elements::Named;
-use hm_settle::OpenElements;
+use hm_open_elements::OpenElements;
 use hm_tree::{Attrs, Maker, Tree};
 use serde_json::Value;
 use std::alloc::Global;
@@ -60,7 +60,7 @@ impl Reader {
     }
 
     /// What an item says of the next event, if it is one.
-    pub(crate) fn form_of<'v>(&self, item: &'v Value) -> Option<Form<'v>>
+    pub(crate) fn form_of<'v>(&self, item: &'v Value) -> Option<JsonEvent<'v>>
         ensures event { MatchOption result (event_in self.now.path (view item.now) ≡ None)
             (λ form. event_in self.now.path (view item.now) ≡ Some (told self.now.path form)) }
         ensures told { IfSome result (λ form. event_told self.now.path form ≡ Some (told self.now.path form)) }
@@ -73,11 +73,15 @@ impl Reader {
     }
 
     /// Takes the next event, unless it breaks a rule: then the least rule that it breaks is answered.
-    pub(crate) fn take(&mut self, alloc: Global, form: &Form<'_>) -> Result<Option<u8>, Memory>
+    pub(crate) fn take(
+        &mut self,
+        alloc: Global,
+        form: &JsonEvent<'_>,
+    ) -> Result<Option<u8>, OutOfMemory>
         requires at { IsAt self.old }
         requires told { event_told self.old.path form.now ≡ Some (told self.old.path form.now) }
         ensures { IfOk result (λ point. MatchOption point
-            (IsAt self.new × (self.new.maker ≡ self.old.maker ++ told self.old.path form.now ∷ []) × (self.new.path ≡ path_behind self.old.path (told self.old.path form.now)))
+            (IsAt self.new × (self.new.maker ≡ self.old.maker ++ told self.old.path form.now ∷ []) × (self.new.path ≡ path_after_event self.old.path (told self.old.path form.now)))
             (λ k. (self.new.path ≡ self.old.path) × ((w : List Event) → first_break (self.old.maker ++ told self.old.path form.now ∷ w) ≡ Some (record { event = length self.old.maker; point = k })))) }
     {
         let raw_ends = is_raw_text(alloc, &self.path, form)?;
@@ -90,17 +94,17 @@ impl Reader {
     fn judge(
         &mut self,
         alloc: Global,
-        form: &Form<'_>,
+        form: &JsonEvent<'_>,
         raw_ends: bool,
         attrs: &Option<Attrs>,
-    ) -> Result<Option<u8>, Memory>
+    ) -> Result<Option<u8>, OutOfMemory>
         requires at { IsAt self.old }
         requires told { event_told self.old.path form.now ≡ Some (told self.old.path form.now) }
         requires raw { raw_ends ≡ settled.is_raw_text self.old.path (told self.old.path form.now) [] }
         requires form { is_some attrs.now ≡ settled.has_attributes_in_form self.old.path (told self.old.path form.now) [] }
         requires made { IfSome attrs.now (HasAttributes form.now) }
         ensures { IfOk result (λ point. MatchOption point
-            (IsAt self.new × (self.new.maker ≡ self.old.maker ++ told self.old.path form.now ∷ []) × (self.new.path ≡ path_behind self.old.path (told self.old.path form.now)))
+            (IsAt self.new × (self.new.maker ≡ self.old.maker ++ told self.old.path form.now ∷ []) × (self.new.path ≡ path_after_event self.old.path (told self.old.path form.now)))
             (λ k. (self.new.path ≡ self.old.path) × ((w : List Event) → first_break (self.old.maker ++ told self.old.path form.now ∷ w) ≡ Some (record { event = length self.old.maker; point = k })))) }
     {
         let point = point_of(&self.seen, &self.path, form, raw_ends, attrs.is_some());
@@ -112,20 +116,20 @@ impl Reader {
     }
 
     /// Takes an event that breaks no rule.
-    fn put(&mut self, alloc: Global, form: &Form<'_>, attrs: &Attrs) -> Result<(), Memory>
+    fn put(&mut self, alloc: Global, form: &JsonEvent<'_>, attrs: &Attrs) -> Result<(), OutOfMemory>
         requires at { IsAt self.old }
         requires told { event_told self.old.path form.now ≡ Some (told self.old.path form.now) }
         requires attributes { HasAttributes form.now attrs.now }
         requires sound { (p : Past) → IsSeen self.old.seen p → p.path ≡ self.old.path → point_at p (told self.old.path form.now) ≡ None }
         ensures at { OnOk result (IsAt self.new) }
         ensures maker { OnOk result (self.new.maker ≡ self.old.maker ++ told self.old.path form.now ∷ []) }
-        ensures path { OnOk result (self.new.path ≡ path_behind self.old.path (told self.old.path form.now)) }
+        ensures path { OnOk result (self.new.path ≡ path_after_event self.old.path (told self.old.path form.now)) }
     {
         if self.events >= MOST_EVENTS {
-            return Err(Memory);
+            return Err(OutOfMemory);
         }
         let bytes = with_event(self.bytes, form, attrs)?;
-        let seen = self.seen.behind(&self.path, form);
+        let seen = self.seen.after(&self.path, form);
         put_event(alloc, &mut self.maker, &mut self.path, form, attrs)?;
         self.seen = seen;
         self.bytes = bytes;
@@ -137,7 +141,7 @@ impl Reader {
     pub(crate) fn finish(self) -> Result<Tree, JsonFault>
         requires { IsAt self }
         ensures ok { IfOk result (λ tree. of_listed (put_events self.maker (at_end self.path)) ≡ walk tree) }
-        ensures fault { IfErr result (λ fault. fault ≢ JsonFault.Memory → of_listed (put_events self.maker (at_end self.path)) ≡ fault_walk fault) }
+        ensures fault { IfErr result (λ fault. fault ≢ JsonFault.OutOfMemory → of_listed (put_events self.maker (at_end self.path)) ≡ fault_walk fault) }
     {
         let open = self.path.len();
         if open > 0 {
@@ -153,18 +157,22 @@ impl Reader {
     }
 }
 
-fn is_end(form: &Form<'_>) -> bool
+fn is_end(form: &JsonEvent<'_>) -> bool
     ensures { result ≡ forms.is_end form.now }
 {
-    matches!(form, Form::End)
+    matches!(form, JsonEvent::End)
 }
 
 /// Whether a raw text ends where the end tag of its element follows it. Other events pass.
-fn is_raw_text(alloc: Global, path: &OpenElements, form: &Form<'_>) -> Result<bool, Memory>
+fn is_raw_text(
+    alloc: Global,
+    path: &OpenElements,
+    form: &JsonEvent<'_>,
+) -> Result<bool, OutOfMemory>
     ensures { IfOk result (λ ends. ends ≡ settled.is_raw_text path.now (told path.now form.now) []) }
 {
     match form {
-        Form::Text { text } => if path.is_in_raw() {
+        JsonEvent::Text { text } => if path.is_in_raw() {
             raw_ends(alloc, path, text)
         } else {
             Ok(true)
@@ -174,7 +182,7 @@ fn is_raw_text(alloc: Global, path: &OpenElements, form: &Form<'_>) -> Result<bo
 }
 
 #[tactic(auto, unfolding(hm_elements::specs::Settled::is_raw_text))]
-fn raw_ends(alloc: Global, path: &OpenElements, text: &str) -> Result<bool, Memory>
+fn raw_ends(alloc: Global, path: &OpenElements, text: &str) -> Result<bool, OutOfMemory>
     ensures { IfOk result (λ ends. ends ≡ settled.is_raw_text path.now (walks.text text.now true) []) }
 {
     if has_byte(text.as_bytes(), b'\r') {
@@ -184,34 +192,34 @@ fn raw_ends(alloc: Global, path: &OpenElements, text: &str) -> Result<bool, Memo
 }
 
 /// The attributes of a start, unless they aren't in form. Other events have none.
-fn attributes_in(alloc: Global, form: &Form<'_>) -> Result<Option<Attrs>, Memory>
+fn attributes_in(alloc: Global, form: &JsonEvent<'_>) -> Result<Option<Attrs>, OutOfMemory>
     ensures form { IfOk result (λ made. (path : List Element) → is_some made ≡ settled.has_attributes_in_form path (told path form.now) []) }
     ensures made { IfOk result (λ made. IfSome made (HasAttributes form.now)) }
 {
     match form {
-        Form::Start { attrs, .. } => attributes_of(alloc, attrs),
+        JsonEvent::Start { attrs, .. } => attributes_of(alloc, attrs),
         _ => Ok(Some(Attrs::new(alloc))),
     }
 }
 
 /// The bytes with those of an event.
-fn with_event(bytes: usize, form: &Form<'_>, attrs: &Attrs) -> Result<usize, Memory>
+fn with_event(bytes: usize, form: &JsonEvent<'_>, attrs: &Attrs) -> Result<usize, OutOfMemory>
     requires room { bytes < 2 ^ 29 }
     requires attributes { HasAttributes form.now attrs.now }
     ensures sum { IfOk result (λ sum. (path : List Element) → sum ≡ bytes + event_size (told path form.now)) }
     ensures room { IfOk result (λ sum. sum < 2 ^ 29) }
 {
     match form {
-        Form::Start { name, .. } => with_attributes(with_bytes(bytes, name.len())?, attrs),
-        Form::Text { text } => with_bytes(bytes, text.len()),
-        Form::Comment { text } => with_bytes(bytes, text.len()),
-        Form::Doctype { .. } => Ok(bytes),
-        Form::End => Ok(bytes),
+        JsonEvent::Start { name, .. } => with_attributes(with_bytes(bytes, name.len())?, attrs),
+        JsonEvent::Text { text } => with_bytes(bytes, text.len()),
+        JsonEvent::Comment { text } => with_bytes(bytes, text.len()),
+        JsonEvent::Doctype { .. } => Ok(bytes),
+        JsonEvent::End => Ok(bytes),
     }
 }
 
 /// The bytes with those of attributes.
-fn with_attributes(bytes: usize, attrs: &Attrs) -> Result<usize, Memory>
+fn with_attributes(bytes: usize, attrs: &Attrs) -> Result<usize, OutOfMemory>
     requires { bytes < 2 ^ 29 }
     ensures sum { IfOk result (λ sum. sum ≡ bytes + attributes_size attrs.now) }
     ensures room { IfOk result (λ sum. sum < 2 ^ 29) }
@@ -226,13 +234,13 @@ fn with_attributes(bytes: usize, attrs: &Attrs) -> Result<usize, Memory>
 }
 
 /// The sum, where it isn't more than is kept.
-fn with_bytes(bytes: usize, more: usize) -> Result<usize, Memory>
+fn with_bytes(bytes: usize, more: usize) -> Result<usize, OutOfMemory>
     requires { bytes < 2 ^ 29 }
     ensures sum { IfOk result (λ sum. sum ≡ bytes + more) }
     ensures room { IfOk result (λ sum. sum < 2 ^ 29) }
 {
     if more > MOST_BYTES - bytes {
-        return Err(Memory);
+        return Err(OutOfMemory);
     }
     Ok(bytes + more)
 }
@@ -242,27 +250,27 @@ fn put_event(
     alloc: Global,
     maker: &mut Maker,
     path: &mut OpenElements,
-    form: &Form<'_>,
+    form: &JsonEvent<'_>,
     attrs: &Attrs,
-) -> Result<(), Memory>
+) -> Result<(), OutOfMemory>
     requires room { HasRoom (maker.old ++ told path.old form.now ∷ []) }
     requires open { path.old ≡ path_after [] maker.old }
     requires told { event_told path.old form.now ≡ Some (told path.old form.now) }
     requires attributes { HasAttributes form.now attrs.now }
     requires apart { may_join form.now maker.old ≡ true }
     ensures maker { OnOk result (maker.new ≡ maker.old ++ told path.old form.now ∷ []) }
-    ensures path { OnOk result (path.new ≡ path_behind path.old (told path.old form.now)) }
+    ensures path { OnOk result (path.new ≡ path_after_event path.old (told path.old form.now)) }
 {
     match form {
-        Form::Doctype { legacy } => maker.doctype(*legacy)?,
-        Form::Start { name, .. } => {
+        JsonEvent::Doctype { legacy } => maker.doctype(*legacy)?,
+        JsonEvent::Start { name, .. } => {
             let foreign = is_foreign(path, name);
             maker.start_from(name, foreign, attrs)?;
             path.open(alloc, Named::of(name), foreign)?;
         }
-        Form::Text { text } => maker.text(text, path.is_in_raw())?,
-        Form::Comment { text } => maker.comment(text)?,
-        Form::End => {
+        JsonEvent::Text { text } => maker.text(text, path.is_in_raw())?,
+        JsonEvent::Comment { text } => maker.comment(text)?,
+        JsonEvent::End => {
             maker.end()?;
             path.close();
         }

@@ -1,7 +1,7 @@
 //! A tree from JSON.
 ghost use Rattle.std.specs.Prelude.{◌≡◌, ◌≢◌, ◌+◌, ◌^◌, ◌<◌, ◌≤◌, [], List, None, Some, drop, length, IfOk, IfErr, OnOk, MatchOption};
 ghost use Rattle.serde_json.specs.View.{items_view, view};
-ghost use Rattle.hm_base.specs.Walks.{Element, Event, path_behind};
+ghost use Rattle.hm_base.specs.Walks.{Element, Event, path_after_event};
 ghost use Rattle.hm_elements.specs.Settled.{Settled};
 ghost use Rattle.hm_json_tree.specs.declared.limits.TheConstants as limits;
 ghost use Rattle.hm_json_tree.specs.Progress.{AreListed, IsAt, fault_walk, put_events};
@@ -13,7 +13,7 @@ use crate::form::{depth_after, form_of};
 use crate::limits::JSON_LIMIT;
 use crate::reader::Reader;
 use crate::streamed::read_tokens;
-use hm_base::Memory;
+use hm_base::OutOfMemory;
 use hm_tree::Tree;
 use serde_json::Value;
 use std::alloc::Global;
@@ -23,7 +23,7 @@ use std::alloc::Global;
 pub fn read_tree(alloc: Global, bytes: &[u8]) -> Result<Tree, JsonFault>
     ensures tree { IfOk result (λ tree. json_walk bytes.now ≡ walk tree) }
     ensures settled { IfOk result (λ tree. Settled tree) }
-    ensures fault { IfErr result (λ fault. fault ≢ JsonFault.Memory → json_walk bytes.now ≡ fault_walk fault) }
+    ensures fault { IfErr result (λ fault. fault ≢ JsonFault.OutOfMemory → json_walk bytes.now ≡ fault_walk fault) }
 {
     if bytes.len() > JSON_LIMIT as usize {
         return Err(JsonFault::TooLong);
@@ -39,7 +39,7 @@ fn read_value(alloc: Global, bytes: &[u8]) -> Result<Tree, JsonFault>
     requires { length bytes.now ≤ limits.JSON_LIMIT }
     ensures tree { IfOk result (λ tree. json_walk bytes.now ≡ walk tree) }
     ensures settled { IfOk result (λ tree. Settled tree) }
-    ensures fault { IfErr result (λ fault. fault ≢ JsonFault.Memory → json_walk bytes.now ≡ fault_walk fault) }
+    ensures fault { IfErr result (λ fault. fault ≢ JsonFault.OutOfMemory → json_walk bytes.now ≡ fault_walk fault) }
 {
     let value = parse(alloc, bytes)?;
     match value.as_array() {
@@ -56,13 +56,13 @@ fn read_value(alloc: Global, bytes: &[u8]) -> Result<Tree, JsonFault>
 fn parse(alloc: Global, bytes: &[u8]) -> Result<Value, JsonFault>
     ensures ok { IfOk result (λ value. json.json bytes.now ≡ Some (view value)) }
     ensures fault { IfErr result
-        (λ fault. fault ≢ JsonFault.Memory
+        (λ fault. fault ≢ JsonFault.OutOfMemory
         → (fault ≡ JsonFault.NotJson) × (json.json bytes.now ≡ None)) }
 {
     match Value::from_slice(alloc, bytes) {
         Ok(value) => Ok(value),
         Err(error) => if error.is_memory() {
-            Err(JsonFault::Memory)
+            Err(JsonFault::OutOfMemory)
         } else {
             Err(JsonFault::NotJson)
         },
@@ -72,7 +72,7 @@ fn parse(alloc: Global, bytes: &[u8]) -> Result<Value, JsonFault>
 /// The tree of the events that the items stand for.
 fn read_items(alloc: Global, items: &[Value]) -> Result<Tree, JsonFault>
     ensures tree { IfOk result (λ tree. of_listed (events_in 0 [] (items_view items.now)) ≡ walk tree) }
-    ensures fault { IfErr result (λ fault. fault ≢ JsonFault.Memory → of_listed (events_in 0 [] (items_view items.now)) ≡ fault_walk fault) }
+    ensures fault { IfErr result (λ fault. fault ≢ JsonFault.OutOfMemory → of_listed (events_in 0 [] (items_view items.now)) ≡ fault_walk fault) }
 {
     let mut reader = Reader::new(alloc);
     take_items(alloc, items, &mut reader)?;
@@ -87,7 +87,7 @@ fn take_items(alloc: Global, items: &[Value], reader: &mut Reader) -> Result<(),
     requires top { reader.old.path ≡ [] }
     ensures at { OnOk result (IsAt reader.new) }
     ensures read { OnOk result (events_in 0 [] (items_view items.now) ≡ put_events reader.new.maker (at_end reader.new.path)) }
-    ensures fault { IfErr result (λ fault. fault ≢ JsonFault.Memory → of_listed (events_in 0 [] (items_view items.now)) ≡ fault_walk fault) }
+    ensures fault { IfErr result (λ fault. fault ≢ JsonFault.OutOfMemory → of_listed (events_in 0 [] (items_view items.now)) ≡ fault_walk fault) }
 {
     for i in 0..items.len() {
         take_item(alloc, items, i, reader)?;
@@ -105,7 +105,7 @@ fn take_item(alloc: Global, items: &[Value], i: usize, reader: &mut Reader) -> R
     ensures at { OnOk result (IsAt reader.new) }
     ensures count { OnOk result (i + 1 ≡ length reader.new.maker) }
     ensures listed { OnOk result (AreListed items.now (i + 1) reader.new.maker reader.new.path) }
-    ensures fault { IfErr result (λ fault. fault ≢ JsonFault.Memory → of_listed (events_in 0 [] (items_view items.now)) ≡ fault_walk fault) }
+    ensures fault { IfErr result (λ fault. fault ≢ JsonFault.OutOfMemory → of_listed (events_in 0 [] (items_view items.now)) ≡ fault_walk fault) }
 {
     let Some(form) = reader.form_of(&items[i]) else {
         return Err(bad_event(i));
@@ -121,7 +121,7 @@ fn take_item(alloc: Global, items: &[Value], i: usize, reader: &mut Reader) -> R
 fn follow(items: &[Value], from: usize, opened: u32) -> Result<(), JsonFault>
     requires { from ≤ length items.now }
     ensures ok { OnOk result ((path : List Element) → length path ≡ opened → (w : List Event) × (events_in from path (items_view (drop from items.now)) ≡ listed w)) }
-    ensures fault { IfErr result (λ fault. fault ≢ JsonFault.Memory → (w : List Event) (path : List Element) → length path ≡ opened → of_listed (put_events w (events_in from path (items_view (drop from items.now)))) ≡ fault_walk fault) }
+    ensures fault { IfErr result (λ fault. fault ≢ JsonFault.OutOfMemory → (w : List Event) (path : List Element) → length path ≡ opened → of_listed (put_events w (events_in from path (items_view (drop from items.now)))) ≡ fault_walk fault) }
 {
     let mut depth = opened;
     for i in from..items.len() {
@@ -137,9 +137,9 @@ fn follow(items: &[Value], from: usize, opened: u32) -> Result<(), JsonFault>
 }
 
 /// How many elements are open after an item, if it is an event.
-fn next_depth(item: &Value, depth: u32) -> Result<Option<u32>, Memory>
+fn next_depth(item: &Value, depth: u32) -> Result<Option<u32>, OutOfMemory>
     ensures { IfOk result (λ next. (path : List Element) → length path ≡ depth → MatchOption next (event_in path (view item.now) ≡ None)
-        (λ n. (e : Event) × (event_in path (view item.now) ≡ Some e) × (length (path_behind path e) ≡ n))) }
+        (λ n. (e : Event) × (event_in path (view item.now) ≡ Some e) × (length (path_after_event path e) ≡ n))) }
 {
     let Some(form) = form_of(item) else {
         return Ok(None);
@@ -149,20 +149,20 @@ fn next_depth(item: &Value, depth: u32) -> Result<Option<u32>, Memory>
 
 /// The item that is no event, by its number.
 fn bad_event(i: usize) -> JsonFault
-    ensures { result ≢ JsonFault.Memory → result ≡ JsonFault.BadEvent i }
+    ensures { result ≢ JsonFault.OutOfMemory → result ≡ JsonFault.BadEvent i }
 {
     match u32::try_from(i) {
         Ok(event) => JsonFault::BadEvent { event },
-        Err(_) => JsonFault::Memory,
+        Err(_) => JsonFault::OutOfMemory,
     }
 }
 
 /// The event that breaks a rule, by its number.
 fn not_settled(i: usize, point: u8) -> JsonFault
-    ensures { result ≢ JsonFault.Memory → result ≡ JsonFault.NotSettled i point }
+    ensures { result ≢ JsonFault.OutOfMemory → result ≡ JsonFault.NotSettled i point }
 {
     match u32::try_from(i) {
         Ok(event) => JsonFault::NotSettled { event, point },
-        Err(_) => JsonFault::Memory,
+        Err(_) => JsonFault::OutOfMemory,
     }
 }

@@ -5,19 +5,19 @@ ghost use Rattle.hm_base.specs.Walks.{Attribute, Element, Event, start};
 ghost use Rattle.hm_elements.specs.Paths.{is_in_raw};
 ghost use Rattle.hm_elements.specs.Settled as settled;
 ghost use Rattle.hm_json_tree.specs.Breaks as breaks;
-ghost use Rattle.hm_json_tree.specs.Breaks.{Past, is_behind_text, is_behind_void, is_end, is_text, point_at};
+ghost use Rattle.hm_json_tree.specs.Breaks.{Past, is_after_text, is_after_void, is_end, is_text, point_at};
 ghost use Rattle.hm_json_tree.specs.Forms.{told};
 ghost use Rattle.hm_json_tree.specs.Reading.{is_svg_here};
 ghost use Rattle.hm_json_tree.specs.Seen.{IsSeen};
 
 use crate::attributes::have_zero;
-use crate::form::Form;
+use crate::form::JsonEvent;
 use crate::seen::Seen;
 use crate::texts::{has_byte, is_blank, is_comment_text};
 use hm_base::DEPTH_LIMIT;
 use hm_elements::{Named, is_boundary, is_refused, is_root, same_name, svg_name};
+use hm_open_elements::OpenElements;
 use hm_scan::is_tag_name;
-use hm_settle::OpenElements;
 
 /// Whether an element of this name is one of SVG here.
 pub(crate) fn is_foreign(path: &OpenElements, name: &str) -> bool
@@ -27,11 +27,11 @@ pub(crate) fn is_foreign(path: &OpenElements, name: &str) -> bool
 }
 
 /// Whether an HTML element stands in an element that may hold it.
-fn nests(path: &OpenElements, form: &Form<'_>) -> bool
+fn nests(path: &OpenElements, form: &JsonEvent<'_>) -> bool
     ensures { result ≡ settled.nests path.now (told path.now form.now) [] }
 {
     match form {
-        Form::Start { name, .. } => start_nests(path, name),
+        JsonEvent::Start { name, .. } => start_nests(path, name),
         _ => true,
     }
 }
@@ -48,16 +48,16 @@ fn start_nests(path: &OpenElements, name: &str) -> bool
         && is_tag_name(name.as_bytes())
         && !is_refused(name)
         && path.holds(tag)
-        && !path.yields_to(tag)
+        && !path.is_closed_by_start_of(tag)
         && !path.bars(tag)
 }
 
 /// Whether an element of SVG stands where it may.
-fn is_svg_in_place(path: &OpenElements, form: &Form<'_>) -> bool
+fn is_svg_in_place(path: &OpenElements, form: &JsonEvent<'_>) -> bool
     ensures { result ≡ settled.is_svg_in_place path.now (told path.now form.now) [] }
 {
     match form {
-        Form::Start { name, .. } => start_is_in_place(path, name),
+        JsonEvent::Start { name, .. } => start_is_in_place(path, name),
         _ => true,
     }
 }
@@ -74,23 +74,23 @@ fn start_is_in_place(path: &OpenElements, name: &str) -> bool
 }
 
 /// Whether nothing but its end follows the start of a void element.
-fn keeps_void_empty(seen: &Seen, form: &Form<'_>) -> bool
+fn keeps_void_empty(seen: &Seen, form: &JsonEvent<'_>) -> bool
     ensures { (path : List Element) → result ≡ (not seen.now.void || is_end (told path form.now)) }
 {
-    !seen.void || matches!(form, Form::End)
+    !seen.void || matches!(form, JsonEvent::End)
 }
 
 /// Whether a text may stand here, and nothing stands beside a text that is to be alone.
 #[tactic(auto, unfolding(hm_elements::specs::Settled::is_text_in_place))]
-fn is_text_in_place(seen: &Seen, path: &OpenElements, form: &Form<'_>) -> bool
+fn is_text_in_place(seen: &Seen, path: &OpenElements, form: &JsonEvent<'_>) -> bool
     ensures { result ≡ (settled.is_text_in_place path.now (told path.now form.now) [] && not (seen.now.text && is_text (told path.now form.now))) }
 {
     match form {
-        Form::Doctype { .. } => !path.is_in_text(),
-        Form::Start { attrs, .. } => !have_zero(attrs) && !path.is_in_text(),
-        Form::Text { text } => is_text_here(path, text) && !seen.text,
-        Form::Comment { text } => !has_byte(text.as_bytes(), 0) && !path.is_in_text(),
-        Form::End => true,
+        JsonEvent::Doctype { .. } => !path.is_in_text(),
+        JsonEvent::Start { attrs, .. } => !have_zero(attrs) && !path.is_in_text(),
+        JsonEvent::Text { text } => is_text_here(path, text) && !seen.text,
+        JsonEvent::Comment { text } => !has_byte(text.as_bytes(), 0) && !path.is_in_text(),
+        JsonEvent::End => true,
     }
 }
 
@@ -104,22 +104,22 @@ fn is_text_here(path: &OpenElements, text: &str) -> bool
 
 /// Whether a comment is one that can be written.
 #[tactic(auto, unfolding(hm_elements::specs::Settled::is_comment_in_form))]
-fn is_comment_in_form(form: &Form<'_>) -> bool
+fn is_comment_in_form(form: &JsonEvent<'_>) -> bool
     ensures { (path : List Element) → result ≡ settled.is_comment_in_form path (told path form.now) [] }
 {
     match form {
-        Form::Comment { text } => is_comment_text(text.as_bytes()),
+        JsonEvent::Comment { text } => is_comment_text(text.as_bytes()),
         _ => true,
     }
 }
 
 /// Whether no more elements are open after an event than may be.
 #[tactic(auto, unfolding(hm_elements::specs::Settled::is_not_deep, hm_elements::specs::Paths::is_deep))]
-fn is_not_deep(path: &OpenElements, form: &Form<'_>) -> bool
+fn is_not_deep(path: &OpenElements, form: &JsonEvent<'_>) -> bool
     ensures { result ≡ settled.is_not_deep path.now (told path.now form.now) [] }
 {
     match form {
-        Form::Start { .. } => path.len() < DEPTH_LIMIT as usize,
+        JsonEvent::Start { .. } => path.len() < DEPTH_LIMIT as usize,
         _ => true,
     }
 }
@@ -134,7 +134,7 @@ fn unless(holds: bool, point: u8, more: Option<u8>) -> Option<u8>
 pub(crate) fn point_of(
     seen: &Seen,
     path: &OpenElements,
-    form: &Form<'_>,
+    form: &JsonEvent<'_>,
     raw_ends: bool,
     in_form: bool,
 ) -> Option<u8>
@@ -142,8 +142,8 @@ pub(crate) fn point_of(
     requires attributes { in_form ≡ settled.has_attributes_in_form path.now (told path.now form.now) [] }
     ensures { (p : Past) → IsSeen seen.now p → p.path ≡ path.now → result ≡ point_at p (told path.now form.now) }
 {
-    let top = seen.top.behind(path, form).is_some();
-    let frame = seen.frame.behind(path, form).is_some();
+    let top = seen.top.after(path, form).is_some();
+    let frame = seen.frame.after(path, form).is_some();
     let late = unless(
         is_text_in_place(seen, path, form),
         6,

@@ -4,15 +4,15 @@ ghost use Rattle.hm_base.specs.Walks.{Element, Event};
 ghost use Rattle.hm_elements.specs.Paths.{is_in_svg};
 ghost use Rattle.hm_elements.specs.Settled as settled;
 ghost use Rattle.hm_elements.specs.Settled.{next_frame, next_top, starts_inner_root};
-ghost use Rattle.hm_json_tree.specs.Breaks.{Past, first_past, frame_behind, is_behind_void, past_behind, top_behind};
+ghost use Rattle.hm_json_tree.specs.Breaks.{Past, first_past, frame_after, is_after_void, past_after, top_after};
 ghost use Rattle.hm_json_tree.specs.Forms.{told};
 ghost use Rattle.hm_json_tree.specs.Seen.{IsSeen, frame_of, top_of};
 
-use crate::form::Form;
+use crate::form::JsonEvent;
 use crate::rules::is_foreign;
 use crate::texts::is_blank;
 use hm_elements::{is_root, is_void, same_name};
-use hm_settle::OpenElements;
+use hm_open_elements::OpenElements;
 
 /// What has stood at the top.
 #[derive(Clone, Copy)]
@@ -43,26 +43,26 @@ pub(crate) struct Seen {
 
 impl Top {
     /// What has stood at the top after an event, where it may stand.
-    pub(crate) fn behind(self, path: &OpenElements, form: &Form<'_>) -> Option<Top>
-        ensures { option_map top_of result ≡ top_behind (top_of self) path.now (told path.now form.now) }
+    pub(crate) fn after(self, path: &OpenElements, form: &JsonEvent<'_>) -> Option<Top>
+        ensures { option_map top_of result ≡ top_after (top_of self) path.now (told path.now form.now) }
     {
         if path.len() == 0 {
             return self.next(form);
         }
         match form {
-            Form::Doctype { .. } => None,
+            JsonEvent::Doctype { .. } => None,
             _ => Some(self),
         }
     }
 
     /// The same where no element is open.
-    fn next(self, form: &Form<'_>) -> Option<Top>
+    fn next(self, form: &JsonEvent<'_>) -> Option<Top>
         ensures { option_map top_of result ≡ next_top (top_of self) (told [] form.now) }
     {
         match (self, form) {
-            (_, Form::Comment { .. }) => Some(self),
-            (Top::NoDoctype, Form::Doctype { .. }) => Some(Top::NoHtml),
-            (Top::NoHtml, Form::Start { name, .. }) => if same_name(name, "html") {
+            (_, JsonEvent::Comment { .. }) => Some(self),
+            (Top::NoDoctype, JsonEvent::Doctype { .. }) => Some(Top::NoHtml),
+            (Top::NoHtml, JsonEvent::Start { name, .. }) => if same_name(name, "html") {
                 Some(Top::AllThere)
             } else {
                 None
@@ -74,8 +74,8 @@ impl Top {
 
 impl Frame {
     /// What has stood under `html` after an event, where it may stand.
-    pub(crate) fn behind(self, path: &OpenElements, form: &Form<'_>) -> Option<Frame>
-        ensures { option_map frame_of result ≡ frame_behind (frame_of self) path.now (told path.now form.now) }
+    pub(crate) fn after(self, path: &OpenElements, form: &JsonEvent<'_>) -> Option<Frame>
+        ensures { option_map frame_of result ≡ frame_after (frame_of self) path.now (told path.now form.now) }
     {
         match path.len() {
             0 => if starts_head_or_body(form) {
@@ -93,48 +93,48 @@ impl Frame {
     }
 
     /// The same directly in the outermost element, which is one of SVG where `svg` is set.
-    fn next(self, svg: bool, form: &Form<'_>) -> Option<Frame>
+    fn next(self, svg: bool, form: &JsonEvent<'_>) -> Option<Frame>
         ensures { (m : Element) → svg ≡ m.foreign → option_map frame_of result ≡ next_frame (frame_of self) (told (m ∷ []) form.now) }
     {
         match (self, form) {
-            (_, Form::Comment { .. }) => Some(self),
-            (Frame::NoHead, Form::Start { name, .. }) => if !svg && same_name(name, "head") {
+            (_, JsonEvent::Comment { .. }) => Some(self),
+            (Frame::NoHead, JsonEvent::Start { name, .. }) => if !svg && same_name(name, "head") {
                 Some(Frame::NoBody)
             } else {
                 None
             },
-            (Frame::NoBody, Form::Start { name, .. }) => if !svg && same_name(name, "body") {
+            (Frame::NoBody, JsonEvent::Start { name, .. }) => if !svg && same_name(name, "body") {
                 Some(Frame::HasBody)
             } else {
                 None
             },
-            (Frame::NoBody, Form::Text { text }) => if is_blank(text.as_bytes()) {
+            (Frame::NoBody, JsonEvent::Text { text }) => if is_blank(text.as_bytes()) {
                 Some(Frame::NoBody)
             } else {
                 None
             },
-            (Frame::HasBody, Form::End) => Some(Frame::HasBody),
+            (Frame::HasBody, JsonEvent::End) => Some(Frame::HasBody),
             _ => None,
         }
     }
 }
 
 /// Whether this is the start of `head` or `body` where no element is open.
-fn starts_head_or_body(form: &Form<'_>) -> bool
+fn starts_head_or_body(form: &JsonEvent<'_>) -> bool
     ensures { result ≡ starts_inner_root (told [] form.now) }
 {
     match form {
-        Form::Start { name, .. } => same_name(name, "head") || same_name(name, "body"),
+        JsonEvent::Start { name, .. } => same_name(name, "head") || same_name(name, "body"),
         _ => false,
     }
 }
 
 /// Whether this is the start of `html`, `head` or `body`, where `svg` says whether the innermost element is one of SVG.
-fn starts_root(svg: bool, form: &Form<'_>) -> bool
+fn starts_root(svg: bool, form: &JsonEvent<'_>) -> bool
     ensures { (path : List Element) → svg ≡ is_in_svg path → result ≡ settled.starts_root (told path form.now) }
 {
     match form {
-        Form::Start { name, .. } => !svg && is_root(name),
+        JsonEvent::Start { name, .. } => !svg && is_root(name),
         _ => false,
     }
 }
@@ -153,24 +153,24 @@ impl Seen {
     }
 
     /// What is kept after an event.
-    pub(crate) fn behind(self, path: &OpenElements, form: &Form<'_>) -> Seen
-        ensures { (p : Past) → IsSeen self p → p.path ≡ path.now → IsSeen result (past_behind p (told path.now form.now)) }
+    pub(crate) fn after(self, path: &OpenElements, form: &JsonEvent<'_>) -> Seen
+        ensures { (p : Past) → IsSeen self p → p.path ≡ path.now → IsSeen result (past_after p (told path.now form.now)) }
     {
         Seen {
-            top: self.top.behind(path, form).unwrap_or(self.top),
-            frame: self.frame.behind(path, form).unwrap_or(self.frame),
+            top: self.top.after(path, form).unwrap_or(self.top),
+            frame: self.frame.after(path, form).unwrap_or(self.frame),
             void: starts_void(path, form),
-            text: matches!(form, Form::Text { .. }),
+            text: matches!(form, JsonEvent::Text { .. }),
         }
     }
 }
 
 /// Whether this is the start of a void element.
-fn starts_void(path: &OpenElements, form: &Form<'_>) -> bool
-    ensures { result ≡ is_behind_void (Some (told path.now form.now)) }
+fn starts_void(path: &OpenElements, form: &JsonEvent<'_>) -> bool
+    ensures { result ≡ is_after_void (Some (told path.now form.now)) }
 {
     match form {
-        Form::Start { name, .. } => !is_foreign(path, name) && is_void(name),
+        JsonEvent::Start { name, .. } => !is_foreign(path, name) && is_void(name),
         _ => false,
     }
 }

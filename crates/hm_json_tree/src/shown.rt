@@ -6,7 +6,7 @@ ghost use Rattle.hm_store.specs.Files.{AppendsFront};
 ghost use Rattle.hm_json_tree.specs.Texts.{json_text};
 
 use crate::write::give_tree;
-use hm_base::Memory;
+use hm_base::OutOfMemory;
 use hm_dump::Buffer;
 use hm_store::{Failed, MemSink, Sink};
 use hm_tree::Tree;
@@ -34,7 +34,7 @@ impl Model for JsonShown {
 
 impl JsonShown {
     /// The JSON of a tree. All memory that it takes to put it is taken here, and it is the same for every tree.
-    pub fn of(alloc: Global, tree: Tree) -> Result<JsonShown, Memory>
+    pub fn of(alloc: Global, tree: Tree) -> Result<JsonShown, OutOfMemory>
         ensures { IfOk result (λ shown. shown ≡ json_text tree ++ 10 ∷ []) }
     {
         let room = Vec::with_capacity(alloc, ROOM)?;
@@ -57,7 +57,7 @@ impl JsonShown {
 }
 
 /// The JSON of a tree in memory, without a line feed.
-pub fn write_tree(alloc: Global, tree: &Tree) -> Result<Vec<u8>, Memory>
+pub fn write_tree(alloc: Global, tree: &Tree) -> Result<Vec<u8>, OutOfMemory>
     ensures { IfOk result (λ bytes. bytes.items ≡ json_text tree.now) }
 {
     let room = Vec::with_capacity(alloc, ROOM)?;
@@ -66,13 +66,13 @@ pub fn write_tree(alloc: Global, tree: &Tree) -> Result<Vec<u8>, Memory>
     give_tree(&mut buffer, &mut out, tree);
     buffer.flush(&mut out);
     if buffer.failed {
-        return Err(Memory);
+        return Err(OutOfMemory);
     }
     copied(alloc, out.bytes())
 }
 
 #[inline(always)]
-fn copied(alloc: Global, bytes: &[u8]) -> Result<Vec<u8>, Memory>
+fn copied(alloc: Global, bytes: &[u8]) -> Result<Vec<u8>, OutOfMemory>
     ensures { IfOk result (λ copy. copy.items ≡ bytes.now) }
 {
     let mut copy = Vec::new(alloc);

@@ -9,10 +9,10 @@ ghost use Rattle.hm_tree.specs.Trees.{are_sound};
 ghost use Rattle.hm_json_tree.specs.Tokens.{IsItem, IsRead, Passes, PassesAs, PassesOne, Whole};
 
 use crate::JsonFault;
-use crate::form::{Form, depth_after};
+use crate::form::{JsonEvent, depth_after};
 use crate::reader::Reader;
 use crate::tokens::{is_at_end, next_form};
-use hm_base::Memory;
+use hm_base::OutOfMemory;
 use hm_tree::Tree;
 use json::{Scratch, Token};
 use std::alloc::Global;
@@ -22,7 +22,7 @@ pub(crate) fn read_tokens(alloc: Global, bytes: &[u8]) -> Result<Option<Tree>, J
     requires { length bytes.now ≤ JSON_LIMIT }
     ensures tree { IfOk result (λ read. IfSome read (λ tree. json_walk bytes.now ≡ walk tree)) }
     ensures settled { IfOk result (λ read. IfSome read (λ tree. Settled tree)) }
-    ensures fault { IfErr result (λ fault. fault ≢ JsonFault.Memory → json_walk bytes.now ≡ fault_walk fault) }
+    ensures fault { IfErr result (λ fault. fault ≢ JsonFault.OutOfMemory → json_walk bytes.now ≡ fault_walk fault) }
 {
     let Ok(text) = str::from_utf8(bytes) else {
         return Ok(None);
@@ -36,7 +36,7 @@ pub(crate) fn read_tokens(alloc: Global, bytes: &[u8]) -> Result<Option<Tree>, J
 #[inline(always)]
 fn read_array(alloc: Global, tokens: &mut json::Reader<'_>) -> Result<Option<Tree>, JsonFault>
     ensures tree { IfOk result (λ read. IfSome read (λ tree. (rest : List json.Token) × (tokens.old ≡ json.Token.begin_array ∷ rest) × Whole rest (walk tree) × (are_sound tree ≡ true))) }
-    ensures fault { IfErr result (λ fault. fault ≢ JsonFault.Memory → (rest : List json.Token) × (tokens.old ≡ json.Token.begin_array ∷ rest) × Whole rest (fault_walk fault)) }
+    ensures fault { IfErr result (λ fault. fault ≢ JsonFault.OutOfMemory → (rest : List json.Token) × (tokens.old ≡ json.Token.begin_array ∷ rest) × Whole rest (fault_walk fault)) }
 {
     let Some(Token::BeginArray) = tokens.next() else {
         return Ok(None);
@@ -52,7 +52,7 @@ fn read_array(alloc: Global, tokens: &mut json::Reader<'_>) -> Result<Option<Tre
 /// The tree of the items that follow, up to the end of the text.
 fn read_events(alloc: Global, tokens: &mut json::Reader<'_>) -> Result<Option<Tree>, JsonFault>
     ensures tree { IfOk result (λ read. IfSome read (λ tree. Whole tokens.old (walk tree))) }
-    ensures fault { IfErr result (λ fault. fault ≢ JsonFault.Memory → Whole tokens.old (fault_walk fault)) }
+    ensures fault { IfErr result (λ fault. fault ≢ JsonFault.OutOfMemory → Whole tokens.old (fault_walk fault)) }
 {
     let mut reader = Reader::new(alloc);
     if !take_events(alloc, tokens, &mut reader)? {
@@ -73,7 +73,7 @@ fn take_events(
     requires top { reader.old.path ≡ [] }
     ensures at { IfOk result (λ taken. taken ≡ true → IsAt reader.new) }
     ensures read { IfOk result (λ taken. taken ≡ true → (w : JsonWalk) → of_listed (put_events reader.new.maker (at_end reader.new.path)) ≡ w → Whole tokens.old w) }
-    ensures fault { IfErr result (λ fault. fault ≢ JsonFault.Memory → Whole tokens.old (fault_walk fault)) }
+    ensures fault { IfErr result (λ fault. fault ≢ JsonFault.OutOfMemory → Whole tokens.old (fault_walk fault)) }
 {
     while !tokens.take_end_array() {
         if !read_event(alloc, tokens, reader)? {
@@ -93,7 +93,7 @@ fn read_event(
     ensures at { IfOk result (λ taken. taken ≡ true → IsAt reader.new) }
     ensures read { IfOk result (λ taken. taken ≡ true → (all : List json.Token) → IsRead all reader.old.maker reader.old.path tokens.old → IsRead all reader.new.maker reader.new.path tokens.new) }
     ensures shorter { IfOk result (λ taken. taken ≡ true → length tokens.new < length tokens.old) }
-    ensures fault { IfErr result (λ fault. fault ≢ JsonFault.Memory → (all : List json.Token) → IsRead all reader.old.maker reader.old.path tokens.old → Whole all (fault_walk fault)) }
+    ensures fault { IfErr result (λ fault. fault ≢ JsonFault.OutOfMemory → (all : List json.Token) → IsRead all reader.old.maker reader.old.path tokens.old → Whole all (fault_walk fault)) }
 {
     match next_form(alloc, tokens) {
         Some(form) => take_form(alloc, tokens, reader, &form),
@@ -107,13 +107,13 @@ fn take_form(
     alloc: Global,
     tokens: &mut json::Reader<'_>,
     reader: &mut Reader,
-    form: &Form<'_>,
+    form: &JsonEvent<'_>,
 ) -> Result<bool, JsonFault>
     requires { IsAt reader.old }
     ensures at { IfOk result (λ taken. taken ≡ true → IsAt reader.new) }
     ensures same { IfOk result (λ taken. taken ≡ true → tokens.new ≡ tokens.old) }
     ensures read { IfOk result (λ taken. taken ≡ true → (all before : List json.Token) → IsItem before form.now tokens.old → IsRead all reader.old.maker reader.old.path before → IsRead all reader.new.maker reader.new.path tokens.new) }
-    ensures fault { IfErr result (λ fault. fault ≢ JsonFault.Memory → (all before : List json.Token) → IsItem before form.now tokens.old → IsRead all reader.old.maker reader.old.path before → Whole all (fault_walk fault)) }
+    ensures fault { IfErr result (λ fault. fault ≢ JsonFault.OutOfMemory → (all before : List json.Token) → IsItem before form.now tokens.old → IsRead all reader.old.maker reader.old.path before → Whole all (fault_walk fault)) }
 {
     let event = reader.events;
     let Some(opened) = depth_after(form, reader.path.len() as u32)? else {
@@ -131,7 +131,7 @@ fn take_form(
 /// Whether events follow up to the end of the text, before which so many elements are open, and all elements are closed.
 fn pass_events(alloc: Global, tokens: &mut json::Reader<'_>, opened: u32) -> Result<bool, JsonFault>
     ensures ok { IfOk result (λ passed. passed ≡ true → Passes tokens.old opened) }
-    ensures fault { IfErr result (λ fault. fault ≢ JsonFault.Memory → PassesAs tokens.old opened (fault_walk fault)) }
+    ensures fault { IfErr result (λ fault. fault ≢ JsonFault.OutOfMemory → PassesAs tokens.old opened (fault_walk fault)) }
 {
     let mut depth = opened;
     while !tokens.take_end_array() {
@@ -154,7 +154,7 @@ fn next_depth(
     alloc: Global,
     tokens: &mut json::Reader<'_>,
     depth: u32,
-) -> Result<Option<u32>, Memory>
+) -> Result<Option<u32>, OutOfMemory>
     ensures { IfOk result (λ next. IfSome next (λ n. PassesOne tokens.old depth n tokens.new)) }
 {
     let Some(form) = next_form(alloc, tokens) else {

@@ -6,7 +6,7 @@ ghost use Rattle.hm_base.specs.Forms as forms;
 ghost use Rattle.hm_base.specs.RawText.{is_found};
 ghost use Rattle.hm_elements.specs.Settled.{end_tag, is_place, raw_text_end};
 
-use hm_base::{Memory, is_space};
+use hm_base::{OutOfMemory, is_space};
 use hm_elements::same_name;
 use hm_scan::{end_tag_place, script_end};
 use std::alloc::Global;
@@ -100,7 +100,7 @@ fn has_mark(text: &[u8], mark: &[u8]) -> bool
 }
 
 /// Whether a raw text in an element of this name ends where the end tag of the element follows it.
-pub(crate) fn ends_raw(alloc: Global, name: &str, text: &str) -> Result<bool, Memory>
+pub(crate) fn ends_raw(alloc: Global, name: &str, text: &str) -> Result<bool, OutOfMemory>
     ensures { IfOk result (λ ends. ends ≡ is_place (length text.now) (raw_text_end name.now (text.now ++ end_tag name.now))) }
 {
     let bytes = with_end_tag(alloc, name, text)?;
@@ -116,7 +116,7 @@ pub(crate) fn ends_raw(alloc: Global, name: &str, text: &str) -> Result<bool, Me
 }
 
 /// The text, and an end tag of this name after it.
-fn with_end_tag(alloc: Global, name: &str, text: &str) -> Result<Vec<u8>, Memory>
+fn with_end_tag(alloc: Global, name: &str, text: &str) -> Result<Vec<u8>, OutOfMemory>
     ensures { IfOk result (λ bytes. bytes.items ≡ text.now ++ end_tag name.now) }
 {
     let mut bytes = Vec::new(alloc);

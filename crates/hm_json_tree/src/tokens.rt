@@ -4,13 +4,13 @@ ghost use Rattle.json.specs.Json.{after_end_array};
 ghost use Rattle.hm_json_tree.specs.Pairs.{text_attribute};
 ghost use Rattle.hm_json_tree.specs.Tokens.{ArePairs, IsItem, IsPair, IsText, Says};
 
-use crate::form::Form;
+use crate::form::JsonEvent;
 use crate::pairs::Pairs;
 use json::{Reader, Token};
 use std::alloc::Global;
 
 /// The next item, if it says an event. None is said too where memory for its attributes is refused.
-pub(crate) fn next_form<'a>(alloc: Global, tokens: &mut Reader<'a>) -> Option<Form<'a>>
+pub(crate) fn next_form<'a>(alloc: Global, tokens: &mut Reader<'a>) -> Option<JsonEvent<'a>>
     ensures { IfSome result (λ form. IsItem tokens.old form tokens.new) }
 {
     let Token::BeginArray = tokens.next()? else {
@@ -23,7 +23,7 @@ pub(crate) fn next_form<'a>(alloc: Global, tokens: &mut Reader<'a>) -> Option<Fo
 
 /// What an item says, where the bracket that closes it is next.
 #[inline(always)]
-fn closed<'a>(tokens: &mut Reader<'a>, form: Form<'a>) -> Option<Form<'a>>
+fn closed<'a>(tokens: &mut Reader<'a>, form: JsonEvent<'a>) -> Option<JsonEvent<'a>>
     ensures { IfSome result (λ same. (same ≡ form.entry) × (after_end_array tokens.old ≡ Some tokens.new)) }
 {
     if tokens.take_end_array() {
@@ -34,16 +34,16 @@ fn closed<'a>(tokens: &mut Reader<'a>, form: Form<'a>) -> Option<Form<'a>>
 }
 
 /// The event of a kind that the next tokens say more of.
-fn form_of_kind<'a>(alloc: Global, kind: &str, tokens: &mut Reader<'a>) -> Option<Form<'a>>
+fn form_of_kind<'a>(alloc: Global, kind: &str, tokens: &mut Reader<'a>) -> Option<JsonEvent<'a>>
     ensures { IfSome result (λ form. Says kind.now tokens.old form tokens.new) }
 {
     match kind {
         "start" => start(alloc, tokens),
-        "end" => Some(Form::End),
-        "text" => Some(Form::Text {
+        "end" => Some(JsonEvent::End),
+        "text" => Some(JsonEvent::Text {
             text: text(tokens)?,
         }),
-        "comment" => Some(Form::Comment {
+        "comment" => Some(JsonEvent::Comment {
             text: text(tokens)?,
         }),
         "doctype" => doctype(tokens),
@@ -51,24 +51,24 @@ fn form_of_kind<'a>(alloc: Global, kind: &str, tokens: &mut Reader<'a>) -> Optio
     }
 }
 
-fn start<'a>(alloc: Global, tokens: &mut Reader<'a>) -> Option<Form<'a>>
+fn start<'a>(alloc: Global, tokens: &mut Reader<'a>) -> Option<JsonEvent<'a>>
     ensures { IfSome result (λ form. Says (codes "start") tokens.old form tokens.new) }
 {
     let name = text(tokens)?;
     let texts = pairs(alloc, tokens)?;
-    Some(Form::Start {
+    Some(JsonEvent::Start {
         name,
         attrs: Pairs::of_texts(texts),
     })
 }
 
-fn doctype<'a>(tokens: &mut Reader<'a>) -> Option<Form<'a>>
+fn doctype<'a>(tokens: &mut Reader<'a>) -> Option<JsonEvent<'a>>
     ensures { IfSome result (λ form. Says (codes "doctype") tokens.old form tokens.new) }
 {
     let word = text(tokens)?;
     match word {
-        "plain" => Some(Form::Doctype { legacy: false }),
-        "legacy" => Some(Form::Doctype { legacy: true }),
+        "plain" => Some(JsonEvent::Doctype { legacy: false }),
+        "legacy" => Some(JsonEvent::Doctype { legacy: true }),
         _ => None,
     }
 }

@@ -10,7 +10,7 @@ use Rattle.hm_tree.specs.Tokens.{Seen, Scanned, taken, refused, slice, points, E
 use Rattle.hm_tree.specs.declared.tokens.ScanFault.{ScanFault}
 use Rattle.hm_tree.specs.declared.tokens.ScanFault.TheVariants as faults
 use Rattle.hm_scan.specs.Texts.{opens_markup, begins_markup, reference_in, ends_plain, read_text}
-use Rattle.hm_token_laws.specs.First.{Mode, ordinary, in_svg, rcdata, raw, script, read_markup, read_here, three_more, behind_none, behind_empty_tags, next_here, Next, at_end, behind_bytes, first, rule_of}
+use Rattle.hm_token_laws.specs.First.{Mode, ordinary, in_svg, rcdata, raw, script, read_markup, read_here, three_more, nothing_skipped, after_empty_tags, next_here, Next, at_end, after_bytes, first, rule_of}
 use Rattle.hm_token_laws.specs.Laws.{SoundNames, reads_markup}
 use Rattle.hm_token_laws.specs.Readings.{ends_itself, NextExtends}
 use Rattle.hm_token_laws.proofs.Longer.{next_tokens_extend}
@@ -20,7 +20,7 @@ use Rattle.hm_construction_laws.specs.Steps.{Construction, step}
 use Rattle.hm_construction_laws.specs.Trees.{refused_by, mode_of, stepped, over, tree_from}
 use Rattle.hm_construction_laws.proofs.Modes.{is_mode}
 use Rattle.hm_construction_laws.proofs.Rests.{shorter}
-use Rattle.hm_lexer.specs.Ready.{ends_reference, is_cut, tells_markup, is_told, here_ready, next_ready, ready, plain_piece, piece_by, part_behind, part}
+use Rattle.hm_lexer.specs.Ready.{ends_reference, is_cut, tells_markup, is_told, here_ready, next_ready, ready, plain_piece, piece_by, part_after, part}
 use Rattle.hm_lexer.specs.PartLaws.{GoesOn, PartsBuild}
 use Rattle.hm_lexer.proofs.References.{references_last}
 use Rattle.hm_lexer.proofs.Trees.{token_on, fault_on, end_on, is_foreign, first_here, no_empty_tag, step_text, ArePlain, text_builds}
@@ -29,20 +29,20 @@ use Rattle.hm_lexer.proofs.Trees.{token_on, fault_on, end_on, is_foreign, first_
 
 -- the tree after it is that of what follows
 empty_step : (t : List Entry) (place : ℕ → ℕ) (at : ℕ) (st : Construction) (s : List ℕ) → SoundNames t → reads_markup (mode_of st.path) ≡ true → tree_from t place 0 at st (60 ∷ 47 ∷ 62 ∷ s) ≡ tree_from t place 0 (at + 3) st s
-empty_step t place at st s names m = by (is_null (behind_empty_tags s).rest) refl
+empty_step t place at st s names m = by (is_null (after_empty_tags s).rest) refl
   where
     mode : Mode
     mode = mode_of st.path
 
-    more : first t mode (60 ∷ 47 ∷ 62 ∷ s) ≡ next_here t (is_foreign mode) (three_more (behind_empty_tags s))
+    more : first t mode (60 ∷ 47 ∷ 62 ∷ s) ≡ next_here t (is_foreign mode) (three_more (after_empty_tags s))
     more = first_here t mode (60 ∷ 47 ∷ 62 ∷ s) m
 
-    less : first t mode s ≡ next_here t (is_foreign mode) (behind_empty_tags s)
+    less : first t mode s ≡ next_here t (is_foreign mode) (after_empty_tags s)
     less = first_here t mode s m
 
-    on : (x : Scanned) → first t mode (60 ∷ 47 ∷ 62 ∷ s) ≡ behind_bytes (3 + (behind_empty_tags s).count) x → first t mode s ≡ behind_bytes (behind_empty_tags s).count x → tree_from t place 0 at st (60 ∷ 47 ∷ 62 ∷ s) ≡ tree_from t place 0 (at + 3) st s
+    on : (x : Scanned) → first t mode (60 ∷ 47 ∷ 62 ∷ s) ≡ after_bytes (3 + (after_empty_tags s).count) x → first t mode s ≡ after_bytes (after_empty_tags s).count x → tree_from t place 0 at st (60 ∷ 47 ∷ 62 ∷ s) ≡ tree_from t place 0 (at + 3) st s
     on (taken token rest) e f =
-        let n : ℕ = (behind_empty_tags s).count in
+        let n : ℕ = (after_empty_tags s).count in
         let short = shorter t mode s n token rest names (is_mode st.path) f in
         let one : at + (3 + n) ≡ at + 3 + n = omega arith in
         let two : at + (length (60 ∷ 47 ∷ 62 ∷ s) - length rest) ≡ at + 3 + (length s - length rest) = omega arith in
@@ -50,15 +50,15 @@ empty_step t place at st s names m = by (is_null (behind_empty_tags s).rest) ref
         ∙ ap₂ (λ i j. stepped place i (step st token) (λ next. tree_from t place 0 j next rest)) one two
         ∙ sym (token_on t place (at + 3) st s n token rest names f)
     on (refused fault) e f =
-        let n : ℕ = (behind_empty_tags s).count in
+        let n : ℕ = (after_empty_tags s).count in
         let one : at + (3 + n) ≡ at + 3 + n = omega arith in
         fault_on t place at (3 + n) st fault (60 ∷ 47 ∷ 62 ∷ s) e ∙ ap (λ i. refused_by (rule_of fault) (place i)) one ∙ sym (fault_on t place (at + 3) n st fault s f)
 
-    by : (b : Bool) → is_null (behind_empty_tags s).rest ≡ b → tree_from t place 0 at st (60 ∷ 47 ∷ 62 ∷ s) ≡ tree_from t place 0 (at + 3) st s
+    by : (b : Bool) → is_null (after_empty_tags s).rest ≡ b → tree_from t place 0 at st (60 ∷ 47 ∷ 62 ∷ s) ≡ tree_from t place 0 (at + 3) st s
     by true e =
         let one : at + length (60 ∷ 47 ∷ 62 ∷ s) ≡ at + 3 + length s = omega arith in
         end_on t place at st (60 ∷ 47 ∷ 62 ∷ s) (more ∙ rw e refl) ∙ ap (λ i. over place i st) one ∙ sym (end_on t place (at + 3) st s (less ∙ rw e refl))
-    by false e = on (read_here t (is_foreign mode) (behind_empty_tags s).rest) (more ∙ rw e refl) (less ∙ rw e refl)
+    by false e = on (read_here t (is_foreign mode) (after_empty_tags s).rest) (more ∙ rw e refl) (less ∙ rw e refl)
 
 pub empty_bytes : (a b c : ℕ) → a == 60 && (b == 47 && c == 62) ≡ true → (s : List ℕ) → a ∷ b ∷ c ∷ s ≡ 60 ∷ 47 ∷ 62 ∷ s
 empty_bytes a b c h s =
@@ -70,7 +70,7 @@ empty_bytes a b c h s =
     rw (p, q, r) refl
 
 empties_on : (t : List Entry) (place : ℕ → ℕ) (at : ℕ) (st : Construction) (s y : List ℕ) → SoundNames t → reads_markup (mode_of st.path) ≡ true
-    → tree_from t place 0 at st (s ++ y) ≡ tree_from t place 0 (at + (behind_empty_tags s).count) st ((behind_empty_tags s).rest ++ y)
+    → tree_from t place 0 at st (s ++ y) ≡ tree_from t place 0 (at + (after_empty_tags s).count) st ((after_empty_tags s).rest ++ y)
 empties_on t place at st [] y names m = ap (λ i. tree_from t place 0 i st y) (omega arith)
 empties_on t place at st (a ∷ []) y names m = ap (λ i. tree_from t place 0 i st (a ∷ y)) (omega arith)
 empties_on t place at st (a ∷ b ∷ []) y names m = ap (λ i. tree_from t place 0 i st (a ∷ b ∷ y)) (omega arith)
@@ -79,21 +79,21 @@ empties_on t place at st (a ∷ b ∷ c ∷ s) y names m = by (a == 60 && (b == 
     here : at ≡ at + 0
     here = omega arith
 
-    far : at + 3 + (behind_empty_tags s).count ≡ at + (3 + (behind_empty_tags s).count)
+    far : at + 3 + (after_empty_tags s).count ≡ at + (3 + (after_empty_tags s).count)
     far = omega arith
 
-    by : (x : Bool) → (a == 60 && (b == 47 && c == 62)) ≡ x → tree_from t place 0 (at + 3) st (s ++ y) ≡ tree_from t place 0 (at + 3 + (behind_empty_tags s).count) st ((behind_empty_tags s).rest ++ y)
-        → tree_from t place 0 at st (a ∷ b ∷ c ∷ (s ++ y)) ≡ tree_from t place 0 (at + (cond x (three_more (behind_empty_tags s)) (behind_none (a ∷ b ∷ c ∷ s))).count) st ((cond x (three_more (behind_empty_tags s)) (behind_none (a ∷ b ∷ c ∷ s))).rest ++ y)
-    by true e more = ap (tree_from t place 0 at st) (empty_bytes a b c e (s ++ y)) ∙ empty_step t place at st (s ++ y) names m ∙ more ∙ ap (λ i. tree_from t place 0 i st ((behind_empty_tags s).rest ++ y)) far
+    by : (x : Bool) → (a == 60 && (b == 47 && c == 62)) ≡ x → tree_from t place 0 (at + 3) st (s ++ y) ≡ tree_from t place 0 (at + 3 + (after_empty_tags s).count) st ((after_empty_tags s).rest ++ y)
+        → tree_from t place 0 at st (a ∷ b ∷ c ∷ (s ++ y)) ≡ tree_from t place 0 (at + (cond x (three_more (after_empty_tags s)) (nothing_skipped (a ∷ b ∷ c ∷ s))).count) st ((cond x (three_more (after_empty_tags s)) (nothing_skipped (a ∷ b ∷ c ∷ s))).rest ++ y)
+    by true e more = ap (tree_from t place 0 at st) (empty_bytes a b c e (s ++ y)) ∙ empty_step t place at st (s ++ y) names m ∙ more ∙ ap (λ i. tree_from t place 0 i st ((after_empty_tags s).rest ++ y)) far
     by false e more = ap (λ i. tree_from t place 0 i st (a ∷ b ∷ c ∷ (s ++ y))) here
 
-pub tags_counted : (s : List ℕ) → length s ≡ (behind_empty_tags s).count + length (behind_empty_tags s).rest
+pub tags_counted : (s : List ℕ) → length s ≡ (after_empty_tags s).count + length (after_empty_tags s).rest
 tags_counted [] = refl
 tags_counted (a ∷ []) = refl
 tags_counted (a ∷ b ∷ []) = refl
 tags_counted (a ∷ b ∷ c ∷ s) = by (a == 60 && (b == 47 && c == 62)) (tags_counted s)
   where
-    by : (x : Bool) → length s ≡ (behind_empty_tags s).count + length (behind_empty_tags s).rest → suc (suc (suc (length s))) ≡ (cond x (three_more (behind_empty_tags s)) (behind_none (a ∷ b ∷ c ∷ s))).count + length (cond x (three_more (behind_empty_tags s)) (behind_none (a ∷ b ∷ c ∷ s))).rest
+    by : (x : Bool) → length s ≡ (after_empty_tags s).count + length (after_empty_tags s).rest → suc (suc (suc (length s))) ≡ (cond x (three_more (after_empty_tags s)) (nothing_skipped (a ∷ b ∷ c ∷ s))).count + length (cond x (three_more (after_empty_tags s)) (nothing_skipped (a ∷ b ∷ c ∷ s))).rest
     by true h = omega arith
     by false h = omega arith
 
@@ -104,14 +104,14 @@ not_cut faults.Cut y longer h e = cc
 not_cut faults.BadName y longer h e = e
 not_cut faults.TooManyAttributes y longer h e = e
 not_cut faults.BadDoctype y longer h e = e
-not_cut faults.Memory y longer h e = e
+not_cut faults.OutOfMemory y longer h e = e
 
 extends_on : (t : List Entry) (place : ℕ → ℕ) (at : ℕ) (st : Construction) (s y : List ℕ) (x : Next) → SoundNames t → next_ready x ≡ true → NextExtends y x (first t (mode_of st.path) (s ++ y)) → GoesOn t place at st s y x
 extends_on t place at st s y at_end names h e = cc
-extends_on t place at st s y (behind_bytes n (refused fault)) names h (longer, is, more) = fault_on t place at n st fault (s ++ y) (is ∙ ap (behind_bytes n) (not_cut fault y longer h more))
-extends_on t place at st s y (behind_bytes n (taken token rest)) names h (longer, is, more) =
+extends_on t place at st s y (after_bytes n (refused fault)) names h (longer, is, more) = fault_on t place at n st fault (s ++ y) (is ∙ ap (after_bytes n) (not_cut fault y longer h more))
+extends_on t place at st s y (after_bytes n (taken token rest)) names h (longer, is, more) =
     let size : length (s ++ y) - length (rest ++ y) ≡ length s - length rest = let a = length-append s y in let b = length-append rest y in omega arith in
-    token_on t place at st (s ++ y) n token (rest ++ y) names (is ∙ ap (behind_bytes n) more)
+    token_on t place at st (s ++ y) n token (rest ++ y) names (is ∙ ap (after_bytes n) more)
     ∙ ap (λ k. stepped place (at + n) (step st token) (λ next. tree_from t place 0 (at + k) next (rest ++ y))) size
 
 -- ---- ordinary text
@@ -190,13 +190,13 @@ reference_short t c r ref names h = by (c == 38) refl h
     by false e h = cc
 
 -- a reference where text is read
-pub reference_token : (t : List Entry) (mode : Mode) (c : ℕ) (s : List ℕ) (ref : Reference) → reads_markup mode ≡ true → begins_markup (c ∷ s) ≡ false → reference_in t c s ≡ Some ref → first t mode (c ∷ s) ≡ behind_bytes 0 (taken (points ref.points) (drop ref.len (c ∷ s)))
+pub reference_token : (t : List Entry) (mode : Mode) (c : ℕ) (s : List ℕ) (ref : Reference) → reads_markup mode ≡ true → begins_markup (c ∷ s) ≡ false → reference_in t c s ≡ Some ref → first t mode (c ∷ s) ≡ after_bytes 0 (taken (points ref.points) (drop ref.len (c ∷ s)))
 unfolding read_text
 reference_token t mode c s ref m none h =
-    first_here t mode (c ∷ s) m ∙ ap (next_here t (is_foreign mode)) (no_empty_tag (c ∷ s) none) ∙ rw none (ap (behind_bytes 0) (rw h refl))
+    first_here t mode (c ∷ s) m ∙ ap (next_here t (is_foreign mode)) (no_empty_tag (c ∷ s) none) ∙ rw none (ap (after_bytes 0) (rw h refl))
 
 text_on : (t : List Entry) (place : ℕ → ℕ) (at : ℕ) (st : Construction) (c : ℕ) (r y : List ℕ) → IsTable t → reads_markup (mode_of st.path) ≡ true → is_told c r ≡ true → begins_markup (c ∷ r) ≡ false
-    → GoesOn t place at st (c ∷ r) y (behind_bytes 0 (piece_by (reference_in t c r) t c r))
+    → GoesOn t place at st (c ∷ r) y (after_bytes 0 (piece_by (reference_in t c r) t c r))
 text_on t place at st c r y k m told none = by (reference_in t c r) refl
   where
     here : at ≡ at + 0
@@ -208,11 +208,11 @@ text_on t place at st c r y k m told none = by (reference_in t c r) refl
     same : reference_in t c (r ++ y) ≡ reference_in t c r
     same = reference_same t c r y k told
 
-    by : (o : Option Reference) → reference_in t c r ≡ o → GoesOn t place at st (c ∷ r) y (behind_bytes 0 (piece_by o t c r))
+    by : (o : Option Reference) → reference_in t c r ≡ o → GoesOn t place at st (c ∷ r) y (after_bytes 0 (piece_by o t c r))
     by (Some ref) e =
         let short = reference_short t c r ref (names_of_table t k) e in
         let cut : drop ref.len (c ∷ (r ++ y)) ≡ drop ref.len (c ∷ r) ++ y = drop-append-le ref.len (c ∷ r) y short in
-        let token : first t (mode_of st.path) (c ∷ (r ++ y)) ≡ behind_bytes 0 (taken (points ref.points) (drop ref.len (c ∷ r) ++ y)) = reference_token t (mode_of st.path) c (r ++ y) ref m no_markup (same ∙ e) ∙ ap (λ l. behind_bytes 0 (taken (points ref.points) l)) cut in
+        let token : first t (mode_of st.path) (c ∷ (r ++ y)) ≡ after_bytes 0 (taken (points ref.points) (drop ref.len (c ∷ r) ++ y)) = reference_token t (mode_of st.path) c (r ++ y) ref m no_markup (same ∙ e) ∙ ap (λ l. after_bytes 0 (taken (points ref.points) l)) cut in
         let size : length (c ∷ (r ++ y)) - length (drop ref.len (c ∷ r) ++ y) ≡ length (c ∷ r) - length (drop ref.len (c ∷ r)) = let a = length-append (c ∷ r) y in let b = length-append (drop ref.len (c ∷ r)) y in omega arith in
         token_on t place at st (c ∷ (r ++ y)) 0 (points ref.points) (drop ref.len (c ∷ r) ++ y) (names_of_table t k) token
         ∙ ap (λ n. stepped place (at + 0) (step st (points ref.points)) (λ next. tree_from t place 0 (at + n) next (drop ref.len (c ∷ r) ++ y))) size
@@ -229,7 +229,7 @@ text_on t place at st c r y k m told none = by (reference_in t c r) refl
 
 -- after `</>`
 later_on : (t : List Entry) (place : ℕ → ℕ) (at n : ℕ) (st : Construction) (s r y : List ℕ) (x : Scanned) → length s ≡ n + length r → tree_from t place 0 at st (s ++ y) ≡ tree_from t place 0 (at + n) st (r ++ y) → (rest_short : (token : Seen) (rest : List ℕ) → x ≡ taken token rest → length rest ≤ length r)
-    → GoesOn t place (at + n) st r y (behind_bytes 0 x) → GoesOn t place at st s y (behind_bytes n x)
+    → GoesOn t place (at + n) st r y (after_bytes 0 x) → GoesOn t place at st s y (after_bytes n x)
 later_on t place at n st s r y (refused fault) size e short h = let one : at + n + 0 ≡ at + n = omega arith in e ∙ h ∙ ap (λ i. refused_by (rule_of fault) (place i)) one
 later_on t place at n st s r y (taken token rest) size e short h =
     let one : at + n + 0 ≡ at + n = omega arith in
@@ -249,9 +249,9 @@ part_short t c r None token rest e =
     let equal : length (drop (length (plain_piece t r)) r) ≡ length rest = ap length same in
     omega arith
 
-here_on : (t : List Entry) (place : ℕ → ℕ) (at : ℕ) (st : Construction) (s y : List ℕ) → IsTable t → (m : reads_markup (mode_of st.path) ≡ true) → ends_itself (mode_of st.path) s ≡ begins_markup (behind_empty_tags s).rest
-    → here_ready t (is_foreign (mode_of st.path)) (behind_empty_tags s).rest ≡ true → GoesOn t place at st s y (part_behind t (is_foreign (mode_of st.path)) (behind_empty_tags s))
-here_on t place at st s y k m ends h = by (behind_empty_tags s).rest refl h
+here_on : (t : List Entry) (place : ℕ → ℕ) (at : ℕ) (st : Construction) (s y : List ℕ) → IsTable t → (m : reads_markup (mode_of st.path) ≡ true) → ends_itself (mode_of st.path) s ≡ begins_markup (after_empty_tags s).rest
+    → here_ready t (is_foreign (mode_of st.path)) (after_empty_tags s).rest ≡ true → GoesOn t place at st s y (part_after t (is_foreign (mode_of st.path)) (after_empty_tags s))
+here_on t place at st s y k m ends h = by (after_empty_tags s).rest refl h
   where
     names : SoundNames t
     names = names_of_table t k
@@ -263,26 +263,26 @@ here_on t place at st s y k m ends h = by (behind_empty_tags s).rest refl h
     foreign = is_foreign mode
 
     n : ℕ
-    n = (behind_empty_tags s).count
+    n = (after_empty_tags s).count
 
     -- markup is the next token
-    markup : (c : ℕ) (r : List ℕ) → (behind_empty_tags s).rest ≡ c ∷ r → begins_markup (c ∷ r) ≡ true → here_ready t foreign (c ∷ r) ≡ true → GoesOn t place at st s y (behind_bytes n (read_markup t foreign (c ∷ r)))
+    markup : (c : ℕ) (r : List ℕ) → (after_empty_tags s).rest ≡ c ∷ r → begins_markup (c ∷ r) ≡ true → here_ready t foreign (c ∷ r) ≡ true → GoesOn t place at st s y (after_bytes n (read_markup t foreign (c ∷ r)))
     markup c r e b h =
-        let next : first t mode s ≡ behind_bytes n (read_markup t foreign (c ∷ r)) = first_here t mode s m ∙ rw (e, b) refl in
+        let next : first t mode s ≡ after_bytes n (read_markup t foreign (c ∷ r)) = first_here t mode s m ∙ rw (e, b) refl in
         let whole : not (is_cut (read_markup t foreign (c ∷ r))) ≡ true = subst (λ x. not (is_cut (cond x (read_markup t foreign (c ∷ r)) (read_text t false (c ∷ r)))) ≡ true) b (and_parts (is_told c r) (not (is_cut (read_here t foreign (c ∷ r)))) h).1 in
         let itself : ends_itself mode s ≡ true = ends ∙ ap begins_markup e ∙ b in
-        extends_on t place at st s y (behind_bytes n (read_markup t foreign (c ∷ r))) names whole (subst (λ x. NextExtends y x (first t mode (s ++ y))) next (next_tokens_extend t mode s y itself))
+        extends_on t place at st s y (after_bytes n (read_markup t foreign (c ∷ r))) names whole (subst (λ x. NextExtends y x (first t mode (s ++ y))) next (next_tokens_extend t mode s y itself))
 
-    text : (c : ℕ) (r : List ℕ) → (behind_empty_tags s).rest ≡ c ∷ r → begins_markup (c ∷ r) ≡ false → here_ready t foreign (c ∷ r) ≡ true → GoesOn t place at st s y (behind_bytes n (piece_by (reference_in t c r) t c r))
+    text : (c : ℕ) (r : List ℕ) → (after_empty_tags s).rest ≡ c ∷ r → begins_markup (c ∷ r) ≡ false → here_ready t foreign (c ∷ r) ≡ true → GoesOn t place at st s y (after_bytes n (piece_by (reference_in t c r) t c r))
     text c r e b h =
         later_on t place at n st s (c ∷ r) y (piece_by (reference_in t c r) t c r) (tags_counted s ∙ ap (λ l. n + length l) e) (empties_on t place at st s y names m ∙ ap (λ l. tree_from t place 0 (at + n) st (l ++ y)) e) (part_short t c r (reference_in t c r))
         (text_on t place (at + n) st c r y k m (and_parts (is_told c r) (not (is_cut (read_here t foreign (c ∷ r)))) h).0 b)
 
-    by : (rest : List ℕ) → (behind_empty_tags s).rest ≡ rest → here_ready t foreign rest ≡ true → GoesOn t place at st s y (part_behind t foreign (record { count = n; rest = rest }))
+    by : (rest : List ℕ) → (after_empty_tags s).rest ≡ rest → here_ready t foreign rest ≡ true → GoesOn t place at st s y (part_after t foreign (record { count = n; rest = rest }))
     by [] e h = cc
     by (c ∷ r) e h = choose (begins_markup (c ∷ r)) refl
       where
-        choose : (b : Bool) → begins_markup (c ∷ r) ≡ b → GoesOn t place at st s y (behind_bytes n (cond b (read_markup t foreign (c ∷ r)) (piece_by (reference_in t c r) t c r)))
+        choose : (b : Bool) → begins_markup (c ∷ r) ≡ b → GoesOn t place at st s y (after_bytes n (cond b (read_markup t foreign (c ∷ r)) (piece_by (reference_in t c r) t c r)))
         choose true b = markup c r e b h
         choose false b = text c r e b h
 
@@ -296,8 +296,8 @@ parts_build t place at st s y k h = by (mode_of st.path) refl h
     names = names_of_table t k
 
     by : (m : Mode) → mode_of st.path ≡ m → ready t m s ≡ true → GoesOn t place at st s y (part t m s)
-    by ordinary e h = subst (λ m. GoesOn t place at st s y (part_behind t (is_foreign m) (behind_empty_tags s))) e (here_on t place at st s y k (ap reads_markup e) (ap (λ m. ends_itself m s) e) (subst (λ m. here_ready t (is_foreign m) (behind_empty_tags s).rest ≡ true) (sym e) h))
-    by in_svg e h = subst (λ m. GoesOn t place at st s y (part_behind t (is_foreign m) (behind_empty_tags s))) e (here_on t place at st s y k (ap reads_markup e) (ap (λ m. ends_itself m s) e) (subst (λ m. here_ready t (is_foreign m) (behind_empty_tags s).rest ≡ true) (sym e) h))
+    by ordinary e h = subst (λ m. GoesOn t place at st s y (part_after t (is_foreign m) (after_empty_tags s))) e (here_on t place at st s y k (ap reads_markup e) (ap (λ m. ends_itself m s) e) (subst (λ m. here_ready t (is_foreign m) (after_empty_tags s).rest ≡ true) (sym e) h))
+    by in_svg e h = subst (λ m. GoesOn t place at st s y (part_after t (is_foreign m) (after_empty_tags s))) e (here_on t place at st s y k (ap reads_markup e) (ap (λ m. ends_itself m s) e) (subst (λ m. here_ready t (is_foreign m) (after_empty_tags s).rest ≡ true) (sym e) h))
     by (rcdata name) e h = extends_on t place at st s y (first t (rcdata name) s) names h (subst (λ m. NextExtends y (first t (rcdata name) s) (first t m (s ++ y))) (sym e) (next_tokens_extend t (rcdata name) s y refl))
     by (raw name) e h = extends_on t place at st s y (first t (raw name) s) names h (subst (λ m. NextExtends y (first t (raw name) s) (first t m (s ++ y))) (sym e) (next_tokens_extend t (raw name) s y refl))
     by script e h = extends_on t place at st s y (first t script s) names h (subst (λ m. NextExtends y (first t script s) (first t m (s ++ y))) (sym e) (next_tokens_extend t script s y refl))

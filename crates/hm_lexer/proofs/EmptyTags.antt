@@ -4,17 +4,17 @@ use Rattle.std.specs.Str.{IsUtf8, IsCharBoundary}
 use Rattle.std.proofs.lemmas.Str.{IsCharBoundary-after_ascii}
 use Rattle.std.proofs.lemmas.List.{drop-drop, get_or-drop}
 use Rattle.std.proofs.lemmas.Bool.Decides.{Decides-eqb}
-use Rattle.hm_token_laws.specs.First.{Behind, behind_empty_tags}
+use Rattle.hm_token_laws.specs.First.{Remainder, after_empty_tags}
 use Rattle.hm_lexer.specs.Steps.{begins_empty_tag}
 
 -- with n more bytes before
-abbrev pub more_by : ℕ → Behind → Behind
+abbrev pub more_by : ℕ → Remainder → Remainder
 more_by n k = record { count = n + k.count; rest = k.rest }
 
 record IsEmptyTag (s : List ℕ) : Type 0 where
   long : 3 ≤ length s
   last : get_or s 2 0 ≡ 62
-  over : behind_empty_tags s ≡ more_by 3 (behind_empty_tags (drop 3 s))
+  over : after_empty_tags s ≡ more_by 3 (after_empty_tags (drop 3 s))
 
 empty_tag : (s : List ℕ) → begins_empty_tag s ≡ true → IsEmptyTag s
 empty_tag [] h = absurd (cc)
@@ -32,7 +32,7 @@ empty_tag (a ∷ b ∷ c ∷ s) h = record { long = omega arith; last = by_tests
 pub record IsPassed (s : List ℕ) (at from : ℕ) : Type 0 where
   pub low : at ≤ from
   pub boundary : IsCharBoundary s from
-  pub is : behind_empty_tags (drop at s) ≡ more_by (from - at) (behind_empty_tags (drop from s))
+  pub is : after_empty_tags (drop at s) ≡ more_by (from - at) (after_empty_tags (drop from s))
 
 pub passed_more : (s : List ℕ) (at from : ℕ) → IsUtf8 s → IsPassed s at from → begins_empty_tag (drop from s) ≡ true → IsPassed s at (from + 3)
 passed_more s at from u p h =
@@ -47,8 +47,8 @@ passed_more s at from u p h =
     record {
       low = omega arith;
       boundary = subst (λ n. IsCharBoundary s n) next (IsCharBoundary-after_ascii s (from + 2) u (omega arith) (omega arith));
-      is = p.is ∙ ap (more_by (from - at)) e.over ∙ more_twice (from - at) 3 (behind_empty_tags (drop 3 (drop from s))) ∙ rw (count, rest) refl;
+      is = p.is ∙ ap (more_by (from - at)) e.over ∙ more_twice (from - at) 3 (after_empty_tags (drop 3 (drop from s))) ∙ rw (count, rest) refl;
     }
   where
-    more_twice : (n m : ℕ) (k : Behind) → more_by n (more_by m k) ≡ more_by (n + m) k
+    more_twice : (n m : ℕ) (k : Remainder) → more_by n (more_by m k) ≡ more_by (n + m) k
     more_twice n m k = let same : n + (m + k.count) ≡ n + m + k.count = omega arith in rw same refl

@@ -80,16 +80,16 @@ piece_inside : (t : List Entry) (s : List ℕ) (n : ℕ) (more : List ℕ → Li
 piece_inside t s zero more h = absurd (omega arith)
 piece_inside t s (suc n) more h = refl
 
-pub reads_references : (t : List Entry) (s : List ℕ) (at to : ℕ) (token : Token) (behind : ℕ) → at < to → IsCharBoundary s to → Reads (read_text t true (drop at (slice_range s 0 to))) (slice_range s 0 to) token behind
-    → Reads (read_inside t (drop at s) (Some (to - at)) (read_piece true t)) s token behind
-reads_references t s at to token behind low end r =
+pub reads_references : (t : List Entry) (s : List ℕ) (at to : ℕ) (token : Token) (after : ℕ) → at < to → IsCharBoundary s to → Reads (read_text t true (drop at (slice_range s 0 to))) (slice_range s 0 to) token after
+    → Reads (read_inside t (drop at s) (Some (to - at)) (read_piece true t)) s token after
+reads_references t s at to token after low end r =
     let cut : take (at + (to - at)) s ≡ take to s = ap (λ m. take m s) (omega arith) in
     let front : drop at (take to s) ≡ take (to - at) (drop at s) = ap (drop at) (sym cut) ∙ drop-take at (to - at) s in
     let rest : drop (to - at) (drop at s) ≡ drop to s = drop-drop (to - at) at s ∙ ap (λ m. drop m s) (omega arith) in
     let whole : read_inside t (drop at s) (Some (to - at)) (read_piece true t) ≡ before_rest (read_text t true (drop at (take to s))) (drop to s) =
     piece_inside t (drop at s) (to - at) (read_piece true t) (omega arith) ∙ rw (front, rest) refl in
     let all : slice_range s 0 to ≡ take to s = ap (λ m. take m s) (omega arith) in
-    subst (λ x. Reads x s token behind) (sym whole) (reads_front (read_text t true (drop at (take to s))) s to token behind end (subst (λ x. Reads (read_text t true (drop at x)) x token behind) all r))
+    subst (λ x. Reads x s token after) (sym whole) (reads_front (read_text t true (drop at (take to s))) s to token after end (subst (λ x. Reads (read_text t true (drop at x)) x token after) all r))
 
 pub reads_nothing : (t : List Entry) (s : List ℕ) (at to : ℕ) → at < to → IsCharBoundary s at → IsCharBoundary s to → Reads (read_inside t (drop at s) (Some (to - at)) (read_piece false t)) s (tokens.Slice at to) to
 reads_nothing t s at to low starts end =

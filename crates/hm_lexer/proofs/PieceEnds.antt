@@ -150,11 +150,11 @@ part_slice t s at to h starts none p =
     let ahead : at + 1 ≤ to = p.forward in
     let inside : to ≤ length s = p.inside in
     let long : length (plain_piece t (drop (at + 1) s)) ≡ to - (at + 1) = ap length p.is ∙ simp (length-take, length-drop) (omega arith) in
-    let behind : drop (length (plain_piece t (drop (at + 1) s))) (drop (at + 1) s) ≡ drop to s = ap (λ n. drop n (drop (at + 1) s)) long ∙ drop-drop (to - (at + 1)) (at + 1) s ∙ ap (λ m. drop m s) (omega arith) in
+    let after : drop (length (plain_piece t (drop (at + 1) s))) (drop (at + 1) s) ≡ drop to s = ap (λ n. drop n (drop (at + 1) s)) long ∙ drop-drop (to - (at + 1)) (at + 1) s ∙ ap (λ m. drop m s) (omega arith) in
     let size : to - at ≡ suc (to - (at + 1)) = omega arith in
     let front : get_or s at 0 ∷ plain_piece t (drop (at + 1) s) ≡ slice_range s at to = ap (λ l. get_or s at 0 ∷ l) p.is ∙ sym (ap₂ take size first) in
     record {
-      is = ap (text_part t) first ∙ ap (λ o. piece_by o t (get_or s at 0) (drop (at + 1) s)) (ap (reference_here t) (sym first) ∙ none) ∙ ap₂ (λ x y. taken (slice x) y) front behind;
+      is = ap (text_part t) first ∙ ap (λ o. piece_by o t (get_or s at 0) (drop (at + 1) s)) (ap (reference_here t) (sym first) ∙ none) ∙ ap₂ (λ x y. taken (slice x) y) front after;
       inside = record { ordered = omega arith; from_boundary = starts; to_boundary = ends };
       boundary = ends;
     }

@@ -1,7 +1,7 @@
 -- A reference that has ended is the same, whatever follows it.
 use Rattle.std.proofs.Common.{◌≡◌, ℕ, ◌+◌, Bool, true, false, cond, not, ◌||◌, ◌==◌, List, [], ◌∷◌, ◌++◌, length, Option, Some, None, option_map, refl, sym, ap, ap₂, ◌∙◌, append_assoc}
 use Rattle.std.proofs.lemmas.Bool.{eqb-true}
-use Rattle.hm_base.specs.Bytes.{front, behind, head_is, is_null, is_alnum, is_digit_of, some_passes}
+use Rattle.hm_base.specs.Bytes.{front, rest_after, head_is, is_null, is_alnum, is_digit_of, some_passes}
 use Rattle.hm_refs.specs.Names.{Entry, points_of, Found, or_else, found_by, found_here, found, longest}
 use Rattle.hm_refs.specs.Numbers.{point_of}
 use Rattle.hm_refs.specs.References.{value_of, is_semicolon, numeric, hash, is_blocked, named, reference_by, reference}
@@ -18,9 +18,9 @@ front_ends : (p : ℕ → Bool) (s y : List ℕ) → p 59 ≡ false → front p 
 front_ends p [] y h = rw h refl
 front_ends p (c ∷ s) y h = ap (λ x. cond (p c) (c ∷ x) []) (front_ends p s y h)
 
-behind_ends : (p : ℕ → Bool) (s y : List ℕ) → p 59 ≡ false → behind p (s ++ 59 ∷ y) ≡ behind p s ++ 59 ∷ y
-behind_ends p [] y h = rw h refl
-behind_ends p (c ∷ s) y h = elim (p c) as (λ b. cond b (behind p (s ++ 59 ∷ y)) (c ∷ (s ++ 59 ∷ y)) ≡ cond b (behind p s) (c ∷ s) ++ 59 ∷ y) [ true ↦ behind_ends p s y h | false ↦ refl ]
+after_ends : (p : ℕ → Bool) (s y : List ℕ) → p 59 ≡ false → rest_after p (s ++ 59 ∷ y) ≡ rest_after p s ++ 59 ∷ y
+after_ends p [] y h = rw h refl
+after_ends p (c ∷ s) y h = elim (p c) as (λ b. cond b (rest_after p (s ++ 59 ∷ y)) (c ∷ (s ++ 59 ∷ y)) ≡ cond b (rest_after p s) (c ∷ s) ++ 59 ∷ y) [ true ↦ after_ends p s y h | false ↦ refl ]
 
 head_same : (s x y : List ℕ) → head_is is_semicolon (s ++ 59 ∷ x) ≡ head_is is_semicolon (s ++ 59 ∷ y)
 head_same [] x y = refl
@@ -31,10 +31,10 @@ numeric_same before base [] r x y = refl
 numeric_same before base (c ∷ ds) r x y = ap (λ b. Some (record { points = point_of (value_of base (c ∷ ds)) ∷ []; len = before + length (c ∷ ds) + cond b 1 0 })) (head_same r x y)
 
 digits_same : (before base : ℕ) (s x y : List ℕ) → is_digit_of base 59 ≡ false
-    → numeric before base (front (is_digit_of base) (s ++ 59 ∷ x)) (behind (is_digit_of base) (s ++ 59 ∷ x)) ≡ numeric before base (front (is_digit_of base) (s ++ 59 ∷ y)) (behind (is_digit_of base) (s ++ 59 ∷ y))
+    → numeric before base (front (is_digit_of base) (s ++ 59 ∷ x)) (rest_after (is_digit_of base) (s ++ 59 ∷ x)) ≡ numeric before base (front (is_digit_of base) (s ++ 59 ∷ y)) (rest_after (is_digit_of base) (s ++ 59 ∷ y))
 digits_same before base s x y h =
-    rw (front_ends (is_digit_of base) s x h, front_ends (is_digit_of base) s y h, behind_ends (is_digit_of base) s x h, behind_ends (is_digit_of base) s y h)
-    (numeric_same before base (front (is_digit_of base) s) (behind (is_digit_of base) s) x y)
+    rw (front_ends (is_digit_of base) s x h, front_ends (is_digit_of base) s y h, after_ends (is_digit_of base) s x h, after_ends (is_digit_of base) s y h)
+    (numeric_same before base (front (is_digit_of base) s) (rest_after (is_digit_of base) s) x y)
 
 no_decimal : is_digit_of 10 59 ≡ false
 unfolding is_digit_of

@@ -10,18 +10,18 @@ use Rattle.hm_refs.specs.Tables.{IsTable}
 use Rattle.hm_tree.specs.Tokens.{Seen, Scanned, taken, refused, slice, points}
 use Rattle.hm_tree.specs.declared.tokens.ScanFault.{ScanFault}
 use Rattle.hm_scan.specs.Texts.{begins_markup, reference_in, ends_plain, read_by, read_text}
-use Rattle.hm_token_laws.specs.First.{Mode, ordinary, in_svg, rcdata, raw, script, read_markup, read_here, Behind, three_more, behind_none, behind_empty_tags, next_here, Next, at_end, behind_bytes, first}
+use Rattle.hm_token_laws.specs.First.{Mode, ordinary, in_svg, rcdata, raw, script, read_markup, read_here, Remainder, three_more, nothing_skipped, after_empty_tags, next_here, Next, at_end, after_bytes, first}
 use Rattle.hm_token_laws.specs.Laws.{SoundNames, IsMode, reads_markup}
 use Rattle.hm_token_laws.specs.Readings.{ends_itself, NextExtends}
 use Rattle.hm_token_laws.proofs.Bools.{or_parts, none_there}
 use Rattle.hm_token_laws.proofs.Longer.{next_tokens_extend}
 use Rattle.hm_token_laws.proofs.TextPieces.{names_of_table, here_long}
-use Rattle.hm_construction_laws.specs.Steps.{Construction, Stepped, went, stops, behind_events, then_step, step_byte, step_bytes, step}
+use Rattle.hm_construction_laws.specs.Steps.{Construction, Stepped, went, stops, stepped_after_events, then_step, step_byte, step_bytes, step}
 use Rattle.hm_construction_laws.specs.Steps as steps
 use Rattle.hm_construction_laws.specs.Trees.{mode_of}
 use Rattle.hm_construction_laws.proofs.Modes.{is_mode}
 use Rattle.hm_construction_laws.proofs.Rests.{rest_is}
-use Rattle.hm_lexer.specs.Ready.{ends_reference, is_cut, tells_markup, is_told, here_ready, next_ready, ready, plain_piece, piece_by, text_part, here_part, part_behind, part}
+use Rattle.hm_lexer.specs.Ready.{ends_reference, is_cut, tells_markup, is_told, here_ready, next_ready, ready, plain_piece, piece_by, text_part, here_part, part_after, part}
 use Rattle.hm_lexer.specs.Standing.{Standing, stand_at, stand_on, stand_next, stands}
 use Rattle.hm_lexer.specs.PartLaws.{StandsOn, ReadyStands}
 use Rattle.hm_lexer.proofs.Trees.{is_foreign, first_here, no_empty_tag, step_text, MarkupOn, byte_on}
@@ -39,7 +39,7 @@ same_stand (went es st) f g same = same st
 same_stand (stops rule n) f g same = refl
 
 -- a token after which the text goes on
-token_stands : (t : List Entry) (st : Construction) (c : ℕ) (s : List ℕ) (n : ℕ) (token : Seen) (rest : List ℕ) → ready t (mode_of st.path) (c ∷ s) ≡ true → part t (mode_of st.path) (c ∷ s) ≡ behind_bytes n (taken token rest)
+token_stands : (t : List Entry) (st : Construction) (c : ℕ) (s : List ℕ) (n : ℕ) (token : Seen) (rest : List ℕ) → ready t (mode_of st.path) (c ∷ s) ≡ true → part t (mode_of st.path) (c ∷ s) ≡ after_bytes n (taken token rest)
     → drop (pred (length (c ∷ s) - length rest)) s ≡ rest → stands t 0 st (c ∷ s) ≡ stand_on (step st token) (λ next. stands t 0 next rest)
 token_stands t st c s n token rest h e left =
     ap (λ b. cond b (stand_next st (c ∷ s) (part t (mode_of st.path) (c ∷ s)) (λ skip next. stands t skip next s)) (stand_at st (c ∷ s))) h
@@ -47,12 +47,12 @@ token_stands t st c s n token rest h e left =
     ∙ same_stand (step st token) (λ next. stands t (pred (length (c ∷ s) - length rest)) next s) (λ next. stands t 0 next rest)
     (λ next. skipped t (pred (length (c ∷ s) - length rest)) next s ∙ ap (stands t 0 next) left)
 
-fault_stands : (t : List Entry) (st : Construction) (c : ℕ) (s : List ℕ) (n : ℕ) (fault : ScanFault) → ready t (mode_of st.path) (c ∷ s) ≡ true → part t (mode_of st.path) (c ∷ s) ≡ behind_bytes n (refused fault) → stands t 0 st (c ∷ s) ≡ None
+fault_stands : (t : List Entry) (st : Construction) (c : ℕ) (s : List ℕ) (n : ℕ) (fault : ScanFault) → ready t (mode_of st.path) (c ∷ s) ≡ true → part t (mode_of st.path) (c ∷ s) ≡ after_bytes n (refused fault) → stands t 0 st (c ∷ s) ≡ None
 fault_stands t st c s n fault h e =
     ap (λ b. cond b (stand_next st (c ∷ s) (part t (mode_of st.path) (c ∷ s)) (λ skip next. stands t skip next s)) (stand_at st (c ∷ s))) h
     ∙ ap (λ x. stand_next st (c ∷ s) x (λ skip next. stands t skip next s)) e
 
-no_next : (t : List Entry) (mode : Mode) (n : ℕ) (x : Scanned) → first t mode [] ≡ behind_bytes n x → ⊥
+no_next : (t : List Entry) (mode : Mode) (n : ℕ) (x : Scanned) → first t mode [] ≡ after_bytes n x → ⊥
 unfolding first
 no_next t ordinary n x e = cc
 no_next t in_svg n x e = cc
@@ -64,17 +64,17 @@ no_next t script n x e = cc
 extends_stand : (t : List Entry) (st : Construction) (s y : List ℕ) (x : Next) → SoundNames t → next_ready x ≡ true → NextExtends y x (first t (mode_of st.path) (s ++ y)) → ready t (mode_of st.path) (s ++ y) ≡ true
     → part t (mode_of st.path) (s ++ y) ≡ first t (mode_of st.path) (s ++ y) → StandsOn t st s y x
 extends_stand t st s y at_end names h e r p = tt
-extends_stand t st s y (behind_bytes n (refused fault)) names h (longer, is, more) r p = by (s ++ y) refl r (p ∙ is ∙ ap (behind_bytes n) (not_cut fault y longer h more)) is
+extends_stand t st s y (after_bytes n (refused fault)) names h (longer, is, more) r p = by (s ++ y) refl r (p ∙ is ∙ ap (after_bytes n) (not_cut fault y longer h more)) is
   where
-    none : (x : Scanned) → first t (mode_of st.path) [] ≡ behind_bytes n x → ⊥
+    none : (x : Scanned) → first t (mode_of st.path) [] ≡ after_bytes n x → ⊥
     none x e = no_next t (mode_of st.path) n x e
 
-    by : (whole : List ℕ) → s ++ y ≡ whole → ready t (mode_of st.path) whole ≡ true → part t (mode_of st.path) whole ≡ behind_bytes n (refused fault) → first t (mode_of st.path) whole ≡ behind_bytes n longer → stands t 0 st whole ≡ None
+    by : (whole : List ℕ) → s ++ y ≡ whole → ready t (mode_of st.path) whole ≡ true → part t (mode_of st.path) whole ≡ after_bytes n (refused fault) → first t (mode_of st.path) whole ≡ after_bytes n longer → stands t 0 st whole ≡ None
     by [] e r p i = absurd (none longer i)
     by (c ∷ w) e r p i = fault_stands t st c w n fault r p
-extends_stand t st s y (behind_bytes n (taken token rest)) names h (longer, is, more) r p = by (s ++ y) r (p ∙ is ∙ ap (behind_bytes n) more) (is ∙ ap (behind_bytes n) more)
+extends_stand t st s y (after_bytes n (taken token rest)) names h (longer, is, more) r p = by (s ++ y) r (p ∙ is ∙ ap (after_bytes n) more) (is ∙ ap (after_bytes n) more)
   where
-    by : (whole : List ℕ) → ready t (mode_of st.path) whole ≡ true → part t (mode_of st.path) whole ≡ behind_bytes n (taken token (rest ++ y)) → first t (mode_of st.path) whole ≡ behind_bytes n (taken token (rest ++ y)) → stands t 0 st whole ≡ stand_on (step st token) (λ next. stands t 0 next (rest ++ y))
+    by : (whole : List ℕ) → ready t (mode_of st.path) whole ≡ true → part t (mode_of st.path) whole ≡ after_bytes n (taken token (rest ++ y)) → first t (mode_of st.path) whole ≡ after_bytes n (taken token (rest ++ y)) → stands t 0 st whole ≡ stand_on (step st token) (λ next. stands t 0 next (rest ++ y))
     by [] r p i = absurd (no_next t (mode_of st.path) n (taken token (rest ++ y)) i)
     by (c ∷ w) r p i = token_stands t st c w n token (rest ++ y) r p (rest_is t (mode_of st.path) c w n token (rest ++ y) names (is_mode st.path) i)
 
@@ -117,7 +117,7 @@ text_whole t foreign c s h = rw h (by (reference_in t c s))
 pub here_text : (t : List Entry) (foreign : Bool) (c : ℕ) (s : List ℕ) → is_told c s ≡ true → begins_markup (c ∷ s) ≡ false → here_ready t foreign (c ∷ s) ≡ true
 here_text t foreign c s told none = and_from (is_told c s) (not (is_cut (read_here t foreign (c ∷ s)))) told (ap not (text_whole t foreign c s none))
 
-ready_here : (t : List Entry) (mode : Mode) (s : List ℕ) → reads_markup mode ≡ true → ready t mode s ≡ here_ready t (is_foreign mode) (behind_empty_tags s).rest
+ready_here : (t : List Entry) (mode : Mode) (s : List ℕ) → reads_markup mode ≡ true → ready t mode s ≡ here_ready t (is_foreign mode) (after_empty_tags s).rest
 unfolding ready
 ready_here t ordinary s h = refl
 ready_here t in_svg s h = refl
@@ -125,7 +125,7 @@ ready_here t (rcdata name) s h = cc
 ready_here t (raw name) s h = cc
 ready_here t script s h = cc
 
-part_here : (t : List Entry) (mode : Mode) (s : List ℕ) → reads_markup mode ≡ true → part t mode s ≡ part_behind t (is_foreign mode) (behind_empty_tags s)
+part_here : (t : List Entry) (mode : Mode) (s : List ℕ) → reads_markup mode ≡ true → part t mode s ≡ part_after t (is_foreign mode) (after_empty_tags s)
 unfolding part
 part_here t ordinary s h = refl
 part_here t in_svg s h = refl
@@ -133,13 +133,13 @@ part_here t (rcdata name) s h = cc
 part_here t (raw name) s h = cc
 part_here t script s h = cc
 
-part_found : (t : List Entry) (foreign : Bool) (b : Behind) (c : ℕ) (r : List ℕ) → b.rest ≡ c ∷ r → part_behind t foreign b ≡ behind_bytes b.count (here_part t foreign (c ∷ r))
-part_found t foreign b c r e = ap (λ l. part_behind t foreign (record { count = b.count; rest = l })) e
+part_found : (t : List Entry) (foreign : Bool) (b : Remainder) (c : ℕ) (r : List ℕ) → b.rest ≡ c ∷ r → part_after t foreign b ≡ after_bytes b.count (here_part t foreign (c ∷ r))
+part_found t foreign b c r e = ap (λ l. part_after t foreign (record { count = b.count; rest = l })) e
 
 -- ---- ordinary text byte by byte
 
-behind_length : (n k : ℕ) (r : ℕ) → r ≡ n - k → k ≤ n → pred (suc n - r) ≡ k
-behind_length n k r e h = let one : suc n - r ≡ suc k = omega arith in ap pred one
+after_length : (n k : ℕ) (r : ℕ) → r ≡ n - k → k ≤ n → pred (suc n - r) ≡ k
+after_length n k r e h = let one : suc n - r ≡ suc k = omega arith in ap pred one
 
 piece_short : (t : List Entry) (s : List ℕ) → length (plain_piece t s) ≤ length s
 piece_short t s = let n : length s ≡ length (plain_piece t s) + length (drop (length (plain_piece t s)) s) = ap length (piece_front t s) ∙ length-append (plain_piece t s) (drop (length (plain_piece t s)) s) in omega arith
@@ -151,14 +151,14 @@ text_stand t st c s m told plain =
     let two = or_parts (begins_markup (c ∷ s)) (is_some (reference_in t c s)) plain in
     let f : List ℕ = plain_piece t s in
     let none : reference_in t c s ≡ None = none_there (reference_in t c s) two.1 in
-    let is_ready : ready t (mode_of st.path) (c ∷ s) ≡ true = ready_here t (mode_of st.path) (c ∷ s) m ∙ ap (λ (k : Behind). here_ready t (is_foreign (mode_of st.path)) k.rest) (no_empty_tag (c ∷ s) two.0) ∙ here_text t (is_foreign (mode_of st.path)) c s told two.0 in
-    let token : part t (mode_of st.path) (c ∷ s) ≡ behind_bytes 0 (taken (slice (c ∷ f)) (drop (length f) s)) =
-    part_here t (mode_of st.path) (c ∷ s) m ∙ ap (part_behind t (is_foreign (mode_of st.path))) (no_empty_tag (c ∷ s) two.0) ∙ rw (two.0, none) refl in
-    let skip : pred (suc (length s) - length (drop (length f) s)) ≡ length f = behind_length (length s) (length f) (length (drop (length f) s)) (length-drop (length f) s) (piece_short t s) in
+    let is_ready : ready t (mode_of st.path) (c ∷ s) ≡ true = ready_here t (mode_of st.path) (c ∷ s) m ∙ ap (λ (k : Remainder). here_ready t (is_foreign (mode_of st.path)) k.rest) (no_empty_tag (c ∷ s) two.0) ∙ here_text t (is_foreign (mode_of st.path)) c s told two.0 in
+    let token : part t (mode_of st.path) (c ∷ s) ≡ after_bytes 0 (taken (slice (c ∷ f)) (drop (length f) s)) =
+    part_here t (mode_of st.path) (c ∷ s) m ∙ ap (part_after t (is_foreign (mode_of st.path))) (no_empty_tag (c ∷ s) two.0) ∙ rw (two.0, none) refl in
+    let skip : pred (suc (length s) - length (drop (length f) s)) ≡ length f = after_length (length s) (length f) (length (drop (length f) s)) (length-drop (length f) s) (piece_short t s) in
     token_stands t st c s 0 (slice (c ∷ f)) (drop (length f) s) is_ready token (ap (λ k. drop k s) skip)
     ∙ ap (λ o. stand_on o (λ next. stands t 0 next (drop (length f) s))) (step_text st (c ∷ f))
 
-stand_later : (es : List Event) (n : ℕ) (o : Stepped) (more : Construction → Option Standing) → stand_on (behind_events es (steps.behind_bytes n o)) more ≡ stand_on o more
+stand_later : (es : List Event) (n : ℕ) (o : Stepped) (more : Construction → Option Standing) → stand_on (stepped_after_events es (steps.after_bytes n o)) more ≡ stand_on o more
 stand_later es n (went fs st) more = refl
 stand_later es n (stops rule k) more = refl
 
@@ -175,7 +175,7 @@ byte_stands t st c s m told plain = text_stand t st c s m told plain ∙ by (ste
         choose true e true f = refl
         choose false e b f = refl
 
-    by : (o : Stepped) → MarkupOn o → stand_on (then_step o (λ next. steps.behind_bytes 1 (step_bytes (plain_piece t s) next))) (λ next. stands t 0 next (drop (length (plain_piece t s)) s)) ≡ stand_on o (λ next. stands t 0 next s)
+    by : (o : Stepped) → MarkupOn o → stand_on (then_step o (λ next. steps.after_bytes 1 (step_bytes (plain_piece t s) next))) (λ next. stands t 0 next (drop (length (plain_piece t s)) s)) ≡ stand_on o (λ next. stands t 0 next s)
     by (went es next) k = stand_later es 1 (step_bytes (plain_piece t s) next) (λ n. stands t 0 n (drop (length (plain_piece t s)) s)) ∙ on next s k
     by (stops rule n) k = refl
 
@@ -188,13 +188,13 @@ text_stands : (t : List Entry) (st : Construction) (c : ℕ) (f r : List ℕ) �
 unfolding AreTold
 text_stands t st c [] r m h = byte_stands t st c r m h.0 h.1 ∙ by (step_byte c st)
   where
-    by : (o : Stepped) → stand_on o (λ next. stands t 0 next r) ≡ stand_on (then_step o (λ next. steps.behind_bytes 1 (step_bytes [] next))) (λ next. stands t 0 next r)
+    by : (o : Stepped) → stand_on o (λ next. stands t 0 next r) ≡ stand_on (then_step o (λ next. steps.after_bytes 1 (step_bytes [] next))) (λ next. stands t 0 next r)
     by (went es next) = refl
     by (stops rule n) = refl
 text_stands t st c (d ∷ f) r m h = byte_stands t st c (d ∷ (f ++ r)) m h.0 h.1 ∙ by (step_byte c st) (byte_on c st m) (λ next k. text_stands t next d f r k h.2)
   where
     by : (o : Stepped) → MarkupOn o → ((next : Construction) → reads_markup (mode_of next.path) ≡ true → stands t 0 next (d ∷ (f ++ r)) ≡ stand_on (step_bytes (d ∷ f) next) (λ n. stands t 0 n r))
-        → stand_on o (λ next. stands t 0 next (d ∷ (f ++ r))) ≡ stand_on (then_step o (λ next. steps.behind_bytes 1 (step_bytes (d ∷ f) next))) (λ next. stands t 0 next r)
+        → stand_on o (λ next. stands t 0 next (d ∷ (f ++ r))) ≡ stand_on (then_step o (λ next. steps.after_bytes 1 (step_bytes (d ∷ f) next))) (λ next. stands t 0 next r)
     by (went es next) k more = more next k ∙ sym (stand_later es 1 (step_bytes (d ∷ f) next) (λ n. stands t 0 n r))
     by (stops rule n) k more = refl
 
@@ -230,14 +230,14 @@ suffix_drop c s rest k = by k.front k.is k.some
         let one : suc (length s) - length rest ≡ suc (length front) = omega arith in
         ap (λ n. drop (pred n) s) one ∙ ap (drop (length front)) tail ∙ drop_at front rest (length front) refl
 
-suffix_behind : (e v rest : List ℕ) → Suffix v rest → Suffix (e ++ v) rest
-suffix_behind e v rest k = record {
+suffix_after : (e v rest : List ℕ) → Suffix v rest → Suffix (e ++ v) rest
+suffix_after e v rest k = record {
   front = e ++ k.front;
   is = ap (λ l. e ++ l) k.is ∙ sym (append_assoc e k.front rest);
   some = let n = length-append e k.front in let h = k.some in omega arith;
 }
 
-first_suffix : (t : List Entry) (mode : Mode) (v : List ℕ) (n : ℕ) (token : Seen) (rest : List ℕ) → SoundNames t → IsMode mode → first t mode v ≡ behind_bytes n (taken token rest) → Suffix v rest
+first_suffix : (t : List Entry) (mode : Mode) (v : List ℕ) (n : ℕ) (token : Seen) (rest : List ℕ) → SoundNames t → IsMode mode → first t mode v ≡ after_bytes n (taken token rest) → Suffix v rest
 first_suffix t mode [] n token rest names i h = absurd (no_next t mode n (taken token rest) h)
 first_suffix t mode (c ∷ s) n token rest names i h =
     let j : ℕ = pred (length (c ∷ s) - length rest) in
@@ -247,13 +247,13 @@ first_suffix t mode (c ∷ s) n token rest names i h =
 drop_suffix : (j : ℕ) (c : ℕ) (r : List ℕ) → Suffix (c ∷ r) (drop (suc j) (c ∷ r))
 drop_suffix j c r = record { front = c ∷ take j r; is = ap (λ l. c ∷ l) (sym (take-append-drop j r)); some = omega arith }
 
-tags_front : (v : List ℕ) → (e : List ℕ) × (v ≡ e ++ (behind_empty_tags v).rest)
+tags_front : (v : List ℕ) → (e : List ℕ) × (v ≡ e ++ (after_empty_tags v).rest)
 tags_front [] = ([], refl)
 tags_front (a ∷ []) = ([], refl)
 tags_front (a ∷ b ∷ []) = ([], refl)
 tags_front (a ∷ b ∷ c ∷ s) = by (a == 60 && (b == 47 && c == 62)) (tags_front s)
   where
-    by : (x : Bool) → (e : List ℕ) × (s ≡ e ++ (behind_empty_tags s).rest) → (e : List ℕ) × (a ∷ b ∷ c ∷ s ≡ e ++ (cond x (three_more (behind_empty_tags s)) (behind_none (a ∷ b ∷ c ∷ s))).rest)
+    by : (x : Bool) → (e : List ℕ) × (s ≡ e ++ (after_empty_tags s).rest) → (e : List ℕ) × (a ∷ b ∷ c ∷ s ≡ e ++ (cond x (three_more (after_empty_tags s)) (nothing_skipped (a ∷ b ∷ c ∷ s))).rest)
     by true (e, h) = (a ∷ b ∷ c ∷ e, ap (λ l. a ∷ b ∷ c ∷ l) h)
     by false k = ([], refl)
 
@@ -277,14 +277,14 @@ piece_suffix t c r (Some ref) token rest k h e = by ref.len refl (reference_some
 record Here (t : List Entry) (foreign : Bool) (s : List ℕ) : Type 0 where
   head : ℕ
   more : List ℕ
-  is : (behind_empty_tags s).rest ≡ head ∷ more
+  is : (after_empty_tags s).rest ≡ head ∷ more
   told : is_told head more ≡ true
   whole : not (is_cut (read_here t foreign (head ∷ more))) ≡ true
 
-here : (t : List Entry) (foreign : Bool) (s : List ℕ) → here_ready t foreign (behind_empty_tags s).rest ≡ true → Here t foreign s
-here t foreign s h = by (behind_empty_tags s).rest refl h
+here : (t : List Entry) (foreign : Bool) (s : List ℕ) → here_ready t foreign (after_empty_tags s).rest ≡ true → Here t foreign s
+here t foreign s h = by (after_empty_tags s).rest refl h
   where
-    by : (rest : List ℕ) → (behind_empty_tags s).rest ≡ rest → here_ready t foreign rest ≡ true → Here t foreign s
+    by : (rest : List ℕ) → (after_empty_tags s).rest ≡ rest → here_ready t foreign rest ≡ true → Here t foreign s
     by [] e h = cc
     by (c ∷ r) e h = let two = and_parts (is_told c r) (not (is_cut (read_here t foreign (c ∷ r)))) h in record { head = c; more = r; is = e; told = two.0; whole = two.1 }
 
@@ -296,16 +296,16 @@ part_suffix t mode v n token rest tab i m k e = by (begins_markup (k.head ∷ k.
 
     by : (b : Bool) → begins_markup (k.head ∷ k.more) ≡ b → cond b (read_markup t foreign (k.head ∷ k.more)) (piece_by (reference_in t k.head k.more) t k.head k.more) ≡ taken token rest → Suffix v rest
     by true b e =
-        let next : first t mode v ≡ behind_bytes (behind_empty_tags v).count (taken token rest) = first_here t mode v m ∙ rw (k.is, b) (ap (behind_bytes (behind_empty_tags v).count) e) in
-        first_suffix t mode v (behind_empty_tags v).count token rest (names_of_table t tab) i next
+        let next : first t mode v ≡ after_bytes (after_empty_tags v).count (taken token rest) = first_here t mode v m ∙ rw (k.is, b) (ap (after_bytes (after_empty_tags v).count) e) in
+        first_suffix t mode v (after_empty_tags v).count token rest (names_of_table t tab) i next
     by false b e =
         let f = tags_front v in
         let cut : v ≡ f.0 ++ (k.head ∷ k.more) = f.1 ∙ ap (λ l. f.0 ++ l) k.is in
-        subst (λ l. Suffix l rest) (sym cut) (suffix_behind f.0 (k.head ∷ k.more) rest (piece_suffix t k.head k.more (reference_in t k.head k.more) token rest tab refl e))
+        subst (λ l. Suffix l rest) (sym cut) (suffix_after f.0 (k.head ∷ k.more) rest (piece_suffix t k.head k.more (reference_in t k.head k.more) token rest tab refl e))
 
 -- ---- longer texts
 
-longer_tags : (s y : List ℕ) (c : ℕ) (r : List ℕ) → (behind_empty_tags s).rest ≡ c ∷ r → is_told c r ≡ true → behind_empty_tags (s ++ y) ≡ record { count = (behind_empty_tags s).count; rest = c ∷ (r ++ y) }
+longer_tags : (s y : List ℕ) (c : ℕ) (r : List ℕ) → (after_empty_tags s).rest ≡ c ∷ r → is_told c r ≡ true → after_empty_tags (s ++ y) ≡ record { count = (after_empty_tags s).count; rest = c ∷ (r ++ y) }
 longer_tags [] y c r e h = cc
 longer_tags (a ∷ []) y c r e h =
     let one : a ≡ c = cc in
@@ -319,7 +319,7 @@ longer_tags (a ∷ []) y c r e h =
         test true h = cc
         test false h = refl
 
-    by : (y : List ℕ) → behind_empty_tags (a ∷ y) ≡ behind_none (a ∷ y)
+    by : (y : List ℕ) → after_empty_tags (a ∷ y) ≡ nothing_skipped (a ∷ y)
     by [] = refl
     by (b ∷ []) = refl
     by (b ∷ d ∷ y) = rw no_sign refl
@@ -336,20 +336,20 @@ longer_tags (a ∷ b ∷ []) y c r e h =
         test true false h = refl
         test false z h = refl
 
-    by : (y : List ℕ) → behind_empty_tags (a ∷ b ∷ y) ≡ behind_none (a ∷ b ∷ y)
+    by : (y : List ℕ) → after_empty_tags (a ∷ b ∷ y) ≡ nothing_skipped (a ∷ b ∷ y)
     by [] = refl
     by (d ∷ y) = rw (no_tag d) refl
 longer_tags (a ∷ b ∷ d ∷ s) y c r e h = by (a == 60 && (b == 47 && d == 62)) e (λ k. longer_tags s y c r k h)
   where
-    by : (x : Bool) → (cond x (three_more (behind_empty_tags s)) (behind_none (a ∷ b ∷ d ∷ s))).rest ≡ c ∷ r → ((behind_empty_tags s).rest ≡ c ∷ r → behind_empty_tags (s ++ y) ≡ record { count = (behind_empty_tags s).count; rest = c ∷ (r ++ y) })
-        → cond x (three_more (behind_empty_tags (s ++ y))) (behind_none (a ∷ b ∷ d ∷ (s ++ y))) ≡ record { count = (cond x (three_more (behind_empty_tags s)) (behind_none (a ∷ b ∷ d ∷ s))).count; rest = c ∷ (r ++ y) }
+    by : (x : Bool) → (cond x (three_more (after_empty_tags s)) (nothing_skipped (a ∷ b ∷ d ∷ s))).rest ≡ c ∷ r → ((after_empty_tags s).rest ≡ c ∷ r → after_empty_tags (s ++ y) ≡ record { count = (after_empty_tags s).count; rest = c ∷ (r ++ y) })
+        → cond x (three_more (after_empty_tags (s ++ y))) (nothing_skipped (a ∷ b ∷ d ∷ (s ++ y))) ≡ record { count = (cond x (three_more (after_empty_tags s)) (nothing_skipped (a ∷ b ∷ d ∷ s))).count; rest = c ∷ (r ++ y) }
     by true e more = ap three_more (more e)
-    by false e more = let same : a ∷ b ∷ d ∷ s ≡ c ∷ r = e in ap (λ l. behind_none (l ++ y)) same
+    by false e more = let same : a ∷ b ∷ d ∷ s ≡ c ∷ r = e in ap (λ l. nothing_skipped (l ++ y)) same
 
 next_longer : (x b : Next) (y : List ℕ) → next_ready x ≡ true → NextExtends y x b → next_ready b ≡ true
 next_longer at_end b y h e = cc
-next_longer (behind_bytes n (taken token rest)) b y h (longer, is, more) = rw (is, more) refl
-next_longer (behind_bytes n (refused fault)) b y h (longer, is, more) = rw (is, not_cut fault y longer h more) h
+next_longer (after_bytes n (taken token rest)) b y h (longer, is, more) = rw (is, more) refl
+next_longer (after_bytes n (refused fault)) b y h (longer, is, more) = rw (is, not_cut fault y longer h more) h
 
 ready_element : (t : List Entry) (mode : Mode) (s : List ℕ) → reads_markup mode ≡ false → ready t mode s ≡ next_ready (first t mode s)
 unfolding ready
@@ -374,7 +374,7 @@ itself_element (rcdata name) s h = refl
 itself_element (raw name) s h = refl
 itself_element script s h = refl
 
-itself_here : (mode : Mode) (s : List ℕ) → reads_markup mode ≡ true → ends_itself mode s ≡ begins_markup (behind_empty_tags s).rest
+itself_here : (mode : Mode) (s : List ℕ) → reads_markup mode ≡ true → ends_itself mode s ≡ begins_markup (after_empty_tags s).rest
 itself_here ordinary s h = refl
 itself_here in_svg s h = refl
 itself_here (rcdata name) s h = cc
@@ -392,18 +392,18 @@ here_longer t mode s y tab m k = by (begins_markup (k.head ∷ k.more)) refl
     told = told_longer k.head k.more y k.told
 
     n : ℕ
-    n = (behind_empty_tags s).count
+    n = (after_empty_tags s).count
 
-    tags : behind_empty_tags (s ++ y) ≡ record { count = n; rest = k.head ∷ (k.more ++ y) }
+    tags : after_empty_tags (s ++ y) ≡ record { count = n; rest = k.head ∷ (k.more ++ y) }
     tags = longer_tags s y k.head k.more k.is k.told
 
     by : (b : Bool) → begins_markup (k.head ∷ k.more) ≡ b → here_ready t foreign (k.head ∷ (k.more ++ y)) ≡ true
     by false b = here_text t foreign k.head (k.more ++ y) told (markup_same k.head k.more y k.told ∙ b)
     by true b =
         let itself : ends_itself mode s ≡ true = itself_here mode s m ∙ ap begins_markup k.is ∙ b in
-        let next : first t mode s ≡ behind_bytes n (read_here t foreign (k.head ∷ k.more)) = first_here t mode s m ∙ rw k.is refl in
-        let later : first t mode (s ++ y) ≡ behind_bytes n (read_here t foreign (k.head ∷ (k.more ++ y))) = first_here t mode (s ++ y) m ∙ ap (next_here t foreign) tags in
-        let whole : next_ready (behind_bytes n (read_here t foreign (k.head ∷ (k.more ++ y)))) ≡ true = subst (λ x. next_ready x ≡ true) later (next_longer (first t mode s) (first t mode (s ++ y)) y (subst (λ x. next_ready x ≡ true) (sym next) k.whole) (next_tokens_extend t mode s y itself)) in
+        let next : first t mode s ≡ after_bytes n (read_here t foreign (k.head ∷ k.more)) = first_here t mode s m ∙ rw k.is refl in
+        let later : first t mode (s ++ y) ≡ after_bytes n (read_here t foreign (k.head ∷ (k.more ++ y))) = first_here t mode (s ++ y) m ∙ ap (next_here t foreign) tags in
+        let whole : next_ready (after_bytes n (read_here t foreign (k.head ∷ (k.more ++ y)))) ≡ true = subst (λ x. next_ready x ≡ true) later (next_longer (first t mode s) (first t mode (s ++ y)) y (subst (λ x. next_ready x ≡ true) (sym next) k.whole) (next_tokens_extend t mode s y itself)) in
         and_from (is_told k.head (k.more ++ y)) (not (is_cut (read_here t foreign (k.head ∷ (k.more ++ y))))) told whole
 
 pub ready_longer : (t : List Entry) (mode : Mode) (s y : List ℕ) → IsTable t → ready t mode s ≡ true → ready t mode (s ++ y) ≡ true
@@ -413,7 +413,7 @@ ready_longer t mode s y tab h = by (reads_markup mode) refl
     by false m = ready_element t mode (s ++ y) m ∙ next_longer (first t mode s) (first t mode (s ++ y)) y (sym (ready_element t mode s m) ∙ h) (next_tokens_extend t mode s y (itself_element mode s m))
     by true m =
         let k = here t (is_foreign mode) s (sym (ready_here t mode s m) ∙ h) in
-        ready_here t mode (s ++ y) m ∙ ap (λ (b : Behind). here_ready t (is_foreign mode) b.rest) (longer_tags s y k.head k.more k.is k.told) ∙ here_longer t mode s y tab m k
+        ready_here t mode (s ++ y) m ∙ ap (λ (b : Remainder). here_ready t (is_foreign mode) b.rest) (longer_tags s y k.head k.more k.is k.told) ∙ here_longer t mode s y tab m k
 
 -- ---- `</>` is passed over
 
@@ -437,32 +437,32 @@ empty_stand t st (c ∷ w) tab m h = by (here_part t foreign (k.head ∷ k.more)
     k = here t foreign (c ∷ w) (sym (ready_here t mode (c ∷ w) m) ∙ h)
 
     n : ℕ
-    n = (behind_empty_tags (c ∷ w)).count
+    n = (after_empty_tags (c ∷ w)).count
 
-    less : part t mode (c ∷ w) ≡ behind_bytes n (here_part t foreign (k.head ∷ k.more))
-    less = part_here t mode (c ∷ w) m ∙ part_found t foreign (behind_empty_tags (c ∷ w)) k.head k.more k.is
+    less : part t mode (c ∷ w) ≡ after_bytes n (here_part t foreign (k.head ∷ k.more))
+    less = part_here t mode (c ∷ w) m ∙ part_found t foreign (after_empty_tags (c ∷ w)) k.head k.more k.is
 
-    more : part t mode (60 ∷ 47 ∷ 62 ∷ c ∷ w) ≡ behind_bytes (3 + n) (here_part t foreign (k.head ∷ k.more))
-    more = part_here t mode (60 ∷ 47 ∷ 62 ∷ c ∷ w) m ∙ part_found t foreign (three_more (behind_empty_tags (c ∷ w))) k.head k.more k.is
+    more : part t mode (60 ∷ 47 ∷ 62 ∷ c ∷ w) ≡ after_bytes (3 + n) (here_part t foreign (k.head ∷ k.more))
+    more = part_here t mode (60 ∷ 47 ∷ 62 ∷ c ∷ w) m ∙ part_found t foreign (three_more (after_empty_tags (c ∷ w))) k.head k.more k.is
 
     later : ready t mode (60 ∷ 47 ∷ 62 ∷ c ∷ w) ≡ true
     later = ready_here t mode (60 ∷ 47 ∷ 62 ∷ c ∷ w) m ∙ sym (ready_here t mode (c ∷ w) m) ∙ h
 
     by : (x : Scanned) → here_part t foreign (k.head ∷ k.more) ≡ x → stands t 0 st (60 ∷ 47 ∷ 62 ∷ c ∷ w) ≡ stands t 0 st (c ∷ w)
-    by (refused fault) e = fault_stands t st 60 (47 ∷ 62 ∷ c ∷ w) (3 + n) fault later (more ∙ ap (behind_bytes (3 + n)) e) ∙ sym (fault_stands t st c w n fault h (less ∙ ap (behind_bytes n) e))
+    by (refused fault) e = fault_stands t st 60 (47 ∷ 62 ∷ c ∷ w) (3 + n) fault later (more ∙ ap (after_bytes (3 + n)) e) ∙ sym (fault_stands t st c w n fault h (less ∙ ap (after_bytes n) e))
     by (taken token rest) e =
         let suffix = part_suffix t mode (c ∷ w) n token rest tab (is_mode st.path) m k e in
-        token_stands t st 60 (47 ∷ 62 ∷ c ∷ w) (3 + n) token rest later (more ∙ ap (behind_bytes (3 + n)) e) (suffix_drop 60 (47 ∷ 62 ∷ c ∷ w) rest (suffix_behind (60 ∷ 47 ∷ 62 ∷ []) (c ∷ w) rest suffix))
-        ∙ sym (token_stands t st c w n token rest h (less ∙ ap (behind_bytes n) e) (suffix_drop c w rest suffix))
+        token_stands t st 60 (47 ∷ 62 ∷ c ∷ w) (3 + n) token rest later (more ∙ ap (after_bytes (3 + n)) e) (suffix_drop 60 (47 ∷ 62 ∷ c ∷ w) rest (suffix_after (60 ∷ 47 ∷ 62 ∷ []) (c ∷ w) rest suffix))
+        ∙ sym (token_stands t st c w n token rest h (less ∙ ap (after_bytes n) e) (suffix_drop c w rest suffix))
 
-empties_stand : (t : List Entry) (st : Construction) (s y : List ℕ) → IsTable t → reads_markup (mode_of st.path) ≡ true → ready t (mode_of st.path) s ≡ true → stands t 0 st (s ++ y) ≡ stands t 0 st ((behind_empty_tags s).rest ++ y)
+empties_stand : (t : List Entry) (st : Construction) (s y : List ℕ) → IsTable t → reads_markup (mode_of st.path) ≡ true → ready t (mode_of st.path) s ≡ true → stands t 0 st (s ++ y) ≡ stands t 0 st ((after_empty_tags s).rest ++ y)
 empties_stand t st [] y tab m h = refl
 empties_stand t st (a ∷ []) y tab m h = refl
 empties_stand t st (a ∷ b ∷ []) y tab m h = refl
 empties_stand t st (a ∷ b ∷ c ∷ s) y tab m h = by (a == 60 && (b == 47 && c == 62)) refl (sym (ready_here t (mode_of st.path) (a ∷ b ∷ c ∷ s) m) ∙ h) (empties_stand t st s y tab m)
   where
-    by : (x : Bool) → (a == 60 && (b == 47 && c == 62)) ≡ x → here_ready t (is_foreign (mode_of st.path)) (cond x (three_more (behind_empty_tags s)) (behind_none (a ∷ b ∷ c ∷ s))).rest ≡ true
-        → (ready t (mode_of st.path) s ≡ true → stands t 0 st (s ++ y) ≡ stands t 0 st ((behind_empty_tags s).rest ++ y)) → stands t 0 st (a ∷ b ∷ c ∷ (s ++ y)) ≡ stands t 0 st ((cond x (three_more (behind_empty_tags s)) (behind_none (a ∷ b ∷ c ∷ s))).rest ++ y)
+    by : (x : Bool) → (a == 60 && (b == 47 && c == 62)) ≡ x → here_ready t (is_foreign (mode_of st.path)) (cond x (three_more (after_empty_tags s)) (nothing_skipped (a ∷ b ∷ c ∷ s))).rest ≡ true
+        → (ready t (mode_of st.path) s ≡ true → stands t 0 st (s ++ y) ≡ stands t 0 st ((after_empty_tags s).rest ++ y)) → stands t 0 st (a ∷ b ∷ c ∷ (s ++ y)) ≡ stands t 0 st ((cond x (three_more (after_empty_tags s)) (nothing_skipped (a ∷ b ∷ c ∷ s))).rest ++ y)
     by false e h more = refl
     by true e h more =
         let inner : ready t (mode_of st.path) s ≡ true = ready_here t (mode_of st.path) s m ∙ h in
@@ -485,21 +485,21 @@ ready_stands t st s y tab h = by (reads_markup (mode_of st.path)) refl
         (extends_stand t st s y (first t mode s) (names_of_table t tab) (sym (ready_element t mode s m) ∙ h) (next_tokens_extend t mode s y (itself_element mode s m)) (ready_longer t mode s y tab h) (part_element t mode (s ++ y) m))
 
     n : ℕ
-    n = (behind_empty_tags s).count
+    n = (after_empty_tags s).count
 
-    markup : reads_markup mode ≡ true → (k : Here t foreign s) → begins_markup (k.head ∷ k.more) ≡ true → StandsOn t st s y (behind_bytes n (read_markup t foreign (k.head ∷ k.more)))
+    markup : reads_markup mode ≡ true → (k : Here t foreign s) → begins_markup (k.head ∷ k.more) ≡ true → StandsOn t st s y (after_bytes n (read_markup t foreign (k.head ∷ k.more)))
     markup m k b =
-        let next : first t mode s ≡ behind_bytes n (read_markup t foreign (k.head ∷ k.more)) = first_here t mode s m ∙ rw (k.is, b) refl in
+        let next : first t mode s ≡ after_bytes n (read_markup t foreign (k.head ∷ k.more)) = first_here t mode s m ∙ rw (k.is, b) refl in
         let whole : not (is_cut (read_markup t foreign (k.head ∷ k.more))) ≡ true = subst (λ x. not (is_cut (cond x (read_markup t foreign (k.head ∷ k.more)) (read_text t false (k.head ∷ k.more)))) ≡ true) b k.whole in
         let itself : ends_itself mode s ≡ true = itself_here mode s m ∙ ap begins_markup k.is ∙ b in
         let tags = longer_tags s y k.head k.more k.is k.told in
         let later : begins_markup (k.head ∷ (k.more ++ y)) ≡ true = markup_same k.head k.more y k.told ∙ b in
-        let one : part t mode (s ++ y) ≡ behind_bytes n (read_markup t foreign (k.head ∷ (k.more ++ y))) = part_here t mode (s ++ y) m ∙ ap (part_behind t foreign) tags ∙ ap (λ x. behind_bytes n (cond x (read_markup t foreign (k.head ∷ (k.more ++ y))) (text_part t (k.head ∷ (k.more ++ y))))) later in
-        let two : first t mode (s ++ y) ≡ behind_bytes n (read_markup t foreign (k.head ∷ (k.more ++ y))) = first_here t mode (s ++ y) m ∙ ap (next_here t foreign) tags ∙ ap (λ x. behind_bytes n (cond x (read_markup t foreign (k.head ∷ (k.more ++ y))) (read_text t false (k.head ∷ (k.more ++ y))))) later in
+        let one : part t mode (s ++ y) ≡ after_bytes n (read_markup t foreign (k.head ∷ (k.more ++ y))) = part_here t mode (s ++ y) m ∙ ap (part_after t foreign) tags ∙ ap (λ x. after_bytes n (cond x (read_markup t foreign (k.head ∷ (k.more ++ y))) (text_part t (k.head ∷ (k.more ++ y))))) later in
+        let two : first t mode (s ++ y) ≡ after_bytes n (read_markup t foreign (k.head ∷ (k.more ++ y))) = first_here t mode (s ++ y) m ∙ ap (next_here t foreign) tags ∙ ap (λ x. after_bytes n (cond x (read_markup t foreign (k.head ∷ (k.more ++ y))) (read_text t false (k.head ∷ (k.more ++ y))))) later in
         let same : part t mode (s ++ y) ≡ first t mode (s ++ y) = one ∙ sym two in
-        extends_stand t st s y (behind_bytes n (read_markup t foreign (k.head ∷ k.more))) (names_of_table t tab) whole (subst (λ x. NextExtends y x (first t mode (s ++ y))) next (next_tokens_extend t mode s y itself)) (ready_longer t mode s y tab h) same
+        extends_stand t st s y (after_bytes n (read_markup t foreign (k.head ∷ k.more))) (names_of_table t tab) whole (subst (λ x. NextExtends y x (first t mode (s ++ y))) next (next_tokens_extend t mode s y itself)) (ready_longer t mode s y tab h) same
 
-    text : reads_markup mode ≡ true → (k : Here t foreign s) → begins_markup (k.head ∷ k.more) ≡ false → StandsOn t st s y (behind_bytes n (piece_by (reference_in t k.head k.more) t k.head k.more))
+    text : reads_markup mode ≡ true → (k : Here t foreign s) → begins_markup (k.head ∷ k.more) ≡ false → StandsOn t st s y (after_bytes n (piece_by (reference_in t k.head k.more) t k.head k.more))
     text m k b = choose (reference_in t k.head k.more) refl
       where
         c : ℕ
@@ -508,8 +508,8 @@ ready_stands t st s y tab h = by (reads_markup (mode_of st.path)) refl
         r : List ℕ
         r = k.more
 
-        behind : stands t 0 st (s ++ y) ≡ stands t 0 st (c ∷ (r ++ y))
-        behind = empties_stand t st s y tab m h ∙ ap (λ l. stands t 0 st (l ++ y)) k.is
+        after : stands t 0 st (s ++ y) ≡ stands t 0 st (c ∷ (r ++ y))
+        after = empties_stand t st s y tab m h ∙ ap (λ l. stands t 0 st (l ++ y)) k.is
 
         no_markup : begins_markup (c ∷ (r ++ y)) ≡ false
         no_markup = markup_same c r y k.told ∙ b
@@ -517,30 +517,30 @@ ready_stands t st s y tab h = by (reads_markup (mode_of st.path)) refl
         told : is_told c (r ++ y) ≡ true
         told = told_longer c r y k.told
 
-        choose : (o : Option Reference) → reference_in t c r ≡ o → StandsOn t st s y (behind_bytes n (piece_by o t c r))
+        choose : (o : Option Reference) → reference_in t c r ≡ o → StandsOn t st s y (after_bytes n (piece_by o t c r))
         choose None e =
             let f : List ℕ = plain_piece t r in
             let left : List ℕ = drop (length f) r in
             let whole : r ++ y ≡ f ++ (left ++ y) = ap (λ l. l ++ y) (piece_front t r) ∙ append_assoc f left y in
             let plain : ends_plain t false c (f ++ (left ++ y)) ≡ false = ap (ends_plain t false c) (sym whole) ∙ ap₂ (λ p o. p || is_some o) no_markup (reference_same t c r y tab k.told ∙ e) in
-            behind ∙ ap (λ l. stands t 0 st (c ∷ l)) whole ∙ text_stands t st c f (left ++ y) m (ap (is_told c) (sym whole) ∙ told, plain, piece_told t r y tab)
+            after ∙ ap (λ l. stands t 0 st (c ∷ l)) whole ∙ text_stands t st c f (left ++ y) m (ap (is_told c) (sym whole) ∙ told, plain, piece_told t r y tab)
             ∙ ap (λ o. stand_on o (λ next. stands t 0 next (left ++ y))) (sym (step_text st (c ∷ f)))
         choose (Some ref) e =
             let short = reference_short t c r ref (names_of_table t tab) e in
             let cut : drop ref.len (c ∷ (r ++ y)) ≡ drop ref.len (c ∷ r) ++ y = drop-append-le ref.len (c ∷ r) y short in
-            let is_ready : ready t mode (c ∷ (r ++ y)) ≡ true = ready_here t mode (c ∷ (r ++ y)) m ∙ ap (λ (q : Behind). here_ready t foreign q.rest) (no_empty_tag (c ∷ (r ++ y)) no_markup) ∙ here_text t foreign c (r ++ y) told no_markup in
-            let token : part t mode (c ∷ (r ++ y)) ≡ behind_bytes 0 (taken (points ref.points) (drop ref.len (c ∷ (r ++ y)))) =
-            part_here t mode (c ∷ (r ++ y)) m ∙ ap (part_behind t foreign) (no_empty_tag (c ∷ (r ++ y)) no_markup) ∙ rw no_markup (ap (λ o. behind_bytes 0 (piece_by o t c (r ++ y))) (reference_same t c r y tab k.told ∙ e)) in
+            let is_ready : ready t mode (c ∷ (r ++ y)) ≡ true = ready_here t mode (c ∷ (r ++ y)) m ∙ ap (λ (q : Remainder). here_ready t foreign q.rest) (no_empty_tag (c ∷ (r ++ y)) no_markup) ∙ here_text t foreign c (r ++ y) told no_markup in
+            let token : part t mode (c ∷ (r ++ y)) ≡ after_bytes 0 (taken (points ref.points) (drop ref.len (c ∷ (r ++ y)))) =
+            part_here t mode (c ∷ (r ++ y)) m ∙ ap (part_after t foreign) (no_empty_tag (c ∷ (r ++ y)) no_markup) ∙ rw no_markup (ap (λ o. after_bytes 0 (piece_by o t c (r ++ y))) (reference_same t c r y tab k.told ∙ e)) in
             let suffix = piece_suffix t c (r ++ y) (Some ref) (points ref.points) (drop ref.len (c ∷ (r ++ y))) tab (reference_same t c r y tab k.told ∙ e) refl in
-            behind ∙ token_stands t st c (r ++ y) 0 (points ref.points) (drop ref.len (c ∷ (r ++ y))) is_ready token (suffix_drop c (r ++ y) (drop ref.len (c ∷ (r ++ y))) suffix)
+            after ∙ token_stands t st c (r ++ y) 0 (points ref.points) (drop ref.len (c ∷ (r ++ y))) is_ready token (suffix_drop c (r ++ y) (drop ref.len (c ∷ (r ++ y))) suffix)
             ∙ ap (λ l. stand_on (step st (points ref.points)) (λ next. stands t 0 next l)) cut
 
     by : (b : Bool) → reads_markup mode ≡ b → StandsOn t st s y (part t mode s)
     by false m = element m
     by true m =
         let k = here t foreign s (sym (ready_here t mode s m) ∙ h) in
-        subst (StandsOn t st s y) (sym (part_here t mode s m ∙ part_found t foreign (behind_empty_tags s) k.head k.more k.is)) (choose k (begins_markup (k.head ∷ k.more)) refl)
+        subst (StandsOn t st s y) (sym (part_here t mode s m ∙ part_found t foreign (after_empty_tags s) k.head k.more k.is)) (choose k (begins_markup (k.head ∷ k.more)) refl)
       where
-        choose : (k : Here t foreign s) → (b : Bool) → begins_markup (k.head ∷ k.more) ≡ b → StandsOn t st s y (behind_bytes n (cond b (read_markup t foreign (k.head ∷ k.more)) (piece_by (reference_in t k.head k.more) t k.head k.more)))
+        choose : (k : Here t foreign s) → (b : Bool) → begins_markup (k.head ∷ k.more) ≡ b → StandsOn t st s y (after_bytes n (cond b (read_markup t foreign (k.head ∷ k.more)) (piece_by (reference_in t k.head k.more) t k.head k.more)))
         choose k true b = markup m k b
         choose k false b = text m k b

@@ -12,9 +12,9 @@ use Rattle.hm_tree.specs.declared.tokens.ScanFault.TheVariants as faults
 use Rattle.hm_scan.specs.Texts.{begins_markup}
 use Rattle.hm_scan.specs.Reading.{begins_tag, followed_by_letter, read_tag}
 use Rattle.hm_scan.proofs.TagStarts.{Begins, short_begins, tag_begins}
-use Rattle.hm_token_laws.specs.First.{Mode, ordinary, in_svg, rcdata, raw, script, behind_empty_tags, behind_none}
+use Rattle.hm_token_laws.specs.First.{Mode, ordinary, in_svg, rcdata, raw, script, after_empty_tags, nothing_skipped}
 use Rattle.hm_lexer.specs.Reading.{Reading, IsTaken, Refuses, text_of}
-use Rattle.hm_lexer.specs.Steps.{IsBehind, begins_empty_tag, has_markup, read_in, refusal_of}
+use Rattle.hm_lexer.specs.Steps.{IsAfterNothing, begins_empty_tag, has_markup, read_in, refusal_of}
 use Rattle.hm_lexer.specs.Parts.{IsWhole}
 use Rattle.hm_lexer.proofs.Nexts.{next_refused, next_taken}
 use Rattle.hm_lexer.proofs.PartSteps.{whole_markup}
@@ -69,25 +69,25 @@ tag_not_empty (c ∷ d ∷ e ∷ s) h =
     let first : c ≡ 60 = starts c d (e ∷ s) h in
     subst (λ x. begins_empty_tag (x ∷ d ∷ e ∷ s) ≡ false) (sym first) (tag_has_name d e s (subst (λ x. begins_tag (x ∷ d ∷ e ∷ s) ≡ true) first h))
 
-none_behind : (s : List ℕ) → begins_empty_tag s ≡ false → behind_empty_tags s ≡ behind_none s
-none_behind [] h = refl
-none_behind (a ∷ []) h = refl
-none_behind (a ∷ b ∷ []) h = refl
-none_behind (a ∷ b ∷ c ∷ s) h = rw h refl
+none_follows : (s : List ℕ) → begins_empty_tag s ≡ false → after_empty_tags s ≡ nothing_skipped s
+none_follows [] h = refl
+none_follows (a ∷ []) h = refl
+none_follows (a ∷ b ∷ []) h = refl
+none_follows (a ∷ b ∷ c ∷ s) h = rw h refl
 
 -- ---- where start tags are read, nothing stands before a tag, and it is read as one
 
-nothing_passed : (s : List ℕ) (at : ℕ) → begins_tag (drop at s) ≡ true → behind_empty_tags (drop at s) ≡ record { count = at - at; rest = drop at s }
+nothing_passed : (s : List ℕ) (at : ℕ) → begins_tag (drop at s) ≡ true → after_empty_tags (drop at s) ≡ record { count = at - at; rest = drop at s }
 nothing_passed s at h =
     let none : 0 ≡ at - at = omega arith in
-    none_behind (drop at s) (tag_not_empty (drop at s) h) ∙ ap (λ n. record { count = n; rest = drop at s }) none
+    none_follows (drop at s) (tag_not_empty (drop at s) h) ∙ ap (λ n. record { count = n; rest = drop at s }) none
 
-tag_behind : (mode : Mode) (s : List ℕ) (at : ℕ) → has_markup mode ≡ true → IsCharBoundary s at → begins_tag (drop at s) ≡ true → IsBehind mode s at at
-tag_behind ordinary s at m b h = record { is = nothing_passed s at h; forward = omega arith; boundary = b; real = tag_not_empty (drop at s) h }
-tag_behind in_svg s at m b h = record { is = nothing_passed s at h; forward = omega arith; boundary = b; real = tag_not_empty (drop at s) h }
-tag_behind (rcdata name) s at m b h = absurd (cc)
-tag_behind (raw name) s at m b h = absurd (cc)
-tag_behind script s at m b h = absurd (cc)
+tag_after : (mode : Mode) (s : List ℕ) (at : ℕ) → has_markup mode ≡ true → IsCharBoundary s at → begins_tag (drop at s) ≡ true → IsAfterNothing mode s at at
+tag_after ordinary s at m b h = record { is = nothing_passed s at h; forward = omega arith; boundary = b; real = tag_not_empty (drop at s) h }
+tag_after in_svg s at m b h = record { is = nothing_passed s at h; forward = omega arith; boundary = b; real = tag_not_empty (drop at s) h }
+tag_after (rcdata name) s at m b h = absurd (cc)
+tag_after (raw name) s at m b h = absurd (cc)
+tag_after script s at m b h = absurd (cc)
 
 some_bytes : (s : List ℕ) → begins_tag s ≡ true → 0 < length s
 some_bytes [] h = absurd (let none : begins_tag [] ≡ false = short_begins [] (omega arith) in cc)
@@ -95,7 +95,7 @@ some_bytes (c ∷ s) h = omega arith
 
 -- and it is read whole
 pub whole_tag : (t : List Entry) (mode : Mode) (s : List ℕ) (at : ℕ) → has_markup mode ≡ true → IsCharBoundary s at → begins_tag (drop at s) ≡ true → IsWhole t mode (drop at s)
-whole_tag t mode s at m b h = whole_markup t mode (drop at s) (drop at s) (at - at) m (tag_behind mode s at m b h).is (some_bytes (drop at s) h) (tag_is_markup (drop at s) h)
+whole_tag t mode s at m b h = whole_markup t mode (drop at s) (drop at s) (at - at) m (tag_after mode s at m b h).is (some_bytes (drop at s) h) (tag_is_markup (drop at s) h)
 
 tag_is_read : (t : List Entry) (mode : Mode) (s : List ℕ) → has_markup mode ≡ true → begins_tag s ≡ true → read_in t mode s ≡ read_tag t s
 tag_is_read t ordinary s m h = rw (tag_is_markup s h, h) refl
@@ -111,13 +111,13 @@ pub tag_taken : (old : Reading) (mode : Mode) (token : Token) (to : ℕ) → has
     → Reads (read_tag old.names (drop old.at (text_of old))) (text_of old) token to → ((place : ℕ) → BeginsAt place token) → IsTaken old mode (record { token = token; from = old.at; to = to }) (record old { at = to })
 tag_taken old mode token to markup boundary begins forward reads placed =
     let b : Begins (text_of old) old.at = tag_begins (text_of old) old.at begins in
-    next_taken old mode token old.at to (tag_behind mode (text_of old) old.at markup boundary begins) (omega (arith, b.inside)) forward
+    next_taken old mode token old.at to (tag_after mode (text_of old) old.at markup boundary begins) (omega (arith, b.inside)) forward
     (subst (λ x. Reads x (text_of old) token to) (sym (tag_is_read old.names mode (drop old.at (text_of old)) markup begins)) reads) (placed _)
 
 -- its fault is that of the next token
 pub tag_refused : (old : Reading) (mode : Mode) (fault : ScanFault) → has_markup mode ≡ true → IsCharBoundary (text_of old) old.at → begins_tag (drop old.at (text_of old)) ≡ true
-    → (fault ≢ faults.Memory → read_tag old.names (drop old.at (text_of old)) ≡ refused fault) → Refuses old mode (refusal_of fault (place_in old.source.placed old.source.end old.at))
+    → (fault ≢ faults.OutOfMemory → read_tag old.names (drop old.at (text_of old)) ≡ refused fault) → Refuses old mode (refusal_of fault (place_in old.source.placed old.source.end old.at))
 tag_refused old mode fault markup boundary begins refuses =
     let b : Begins (text_of old) old.at = tag_begins (text_of old) old.at begins in
-    next_refused old mode fault old.at (tag_behind mode (text_of old) old.at markup boundary begins) (omega (arith, b.inside))
+    next_refused old mode fault old.at (tag_after mode (text_of old) old.at markup boundary begins) (omega (arith, b.inside))
     (λ never. tag_is_read old.names mode (drop old.at (text_of old)) markup begins ∙ refuses never)

@@ -83,7 +83,7 @@ end_at (Some n) s at to token low tag reads =
     let rest : drop n (drop at s) ≡ drop to s = let e = reads.is in cc in
     let whole : length (drop at s) ≡ length s - at = length-drop at s in
     let left : length (drop n (drop at s)) ≡ length (drop at s) - n = length-drop n (drop at s) in
-    let behind : length (drop to s) ≡ length s - to = length-drop to s in
+    let after : length (drop to s) ≡ length s - to = length-drop to s in
     let same : length (drop n (drop at s)) ≡ length (drop to s) = ap length rest in
     let place : n ≡ to - at = omega arith in
     record { is = ap Some place; forward = low; boundary = reads.boundary; tag = rw rest at t.1 }

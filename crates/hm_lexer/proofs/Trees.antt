@@ -12,10 +12,10 @@ use Rattle.hm_refs.specs.Names.{Entry}
 use Rattle.hm_tree.specs.Tokens.{Seen, taken, refused, slice}
 use Rattle.hm_tree.specs.declared.tokens.ScanFault.{ScanFault}
 use Rattle.hm_scan.specs.Texts.{opens_markup, begins_markup, reference_in, ends_plain, plain_front, read_text}
-use Rattle.hm_token_laws.specs.First.{Mode, ordinary, in_svg, rcdata, raw, script, three_more, behind_none, behind_empty_tags, next_here, at_end, behind_bytes, first, rule_of}
+use Rattle.hm_token_laws.specs.First.{Mode, ordinary, in_svg, rcdata, raw, script, three_more, nothing_skipped, after_empty_tags, next_here, at_end, after_bytes, first, rule_of}
 use Rattle.hm_token_laws.specs.Laws.{SoundNames, reads_markup}
 use Rattle.hm_token_laws.proofs.Bools.{or_parts, none_there}
-use Rattle.hm_construction_laws.specs.Steps.{InsertionMode, initial, before_html, before_head, in_head, after_head, in_body, after_body, after_html, Construction, Stepped, went, stops, behind_events, then_step, moved, under_html, under_head, under_body, make_html, make_head, close_head, make_body, reach_body, is_in_noscript, keep_byte, space_byte, body_byte, other_byte, kept_byte, no_drop, step_byte, step_bytes, step}
+use Rattle.hm_construction_laws.specs.Steps.{InsertionMode, initial, before_html, before_head, in_head, after_head, in_body, after_body, after_html, Construction, Stepped, went, stops, stepped_after_events, then_step, moved, under_html, under_head, under_body, make_html, make_head, close_head, make_body, reach_body, is_in_noscript, keep_byte, space_byte, body_byte, other_byte, kept_byte, no_drop, step_byte, step_bytes, step}
 use Rattle.hm_construction_laws.specs.Steps as steps
 use Rattle.hm_construction_laws.specs.Trees.{Outcome, built, refused_by, after_events, mode_of, stepped, over, next_step, tree_from}
 use Rattle.hm_construction_laws.proofs.Modes.{is_mode}
@@ -36,7 +36,7 @@ same_step : (place : ℕ → ℕ) (at : ℕ) (o : Stepped) (f g : Construction �
 same_step place at (went es st) f g same = ap (after_events es) (same st)
 same_step place at (stops rule n) f g same = refl
 
-stepped_later : (place : ℕ → ℕ) (at n : ℕ) (es : List Event) (o : Stepped) (more : Construction → Outcome) → stepped place at (behind_events es (steps.behind_bytes n o)) more ≡ after_events es (stepped place (at + n) o more)
+stepped_later : (place : ℕ → ℕ) (at n : ℕ) (es : List Event) (o : Stepped) (more : Construction → Outcome) → stepped place at (stepped_after_events es (steps.after_bytes n o)) more ≡ after_events es (stepped place (at + n) o more)
 stepped_later place at n es (went fs st) more = after_after es fs (more st)
 stepped_later place at n es (stops rule m) more = let e : at + (n + m) ≡ at + n + m = omega arith in ap (λ i. refused_by rule (place i)) e
 
@@ -53,7 +53,7 @@ skipped t place (suc k) at st (c ∷ s) h =
     let more : tree_from t place k (at + 1) st s ≡ tree_from t place 0 (at + 1 + k) st (drop k s) = skipped t place k (at + 1) st s (omega arith) in
     more ∙ ap (λ i. tree_from t place 0 i st (drop k s)) (omega arith)
 
-pub token_on : (t : List Entry) (place : ℕ → ℕ) (at : ℕ) (st : Construction) (s : List ℕ) (n : ℕ) (token : Seen) (rest : List ℕ) → SoundNames t → first t (mode_of st.path) s ≡ behind_bytes n (taken token rest)
+pub token_on : (t : List Entry) (place : ℕ → ℕ) (at : ℕ) (st : Construction) (s : List ℕ) (n : ℕ) (token : Seen) (rest : List ℕ) → SoundNames t → first t (mode_of st.path) s ≡ after_bytes n (taken token rest)
     → tree_from t place 0 at st s ≡ stepped place (at + n) (step st token) (λ next. tree_from t place 0 (at + (length s - length rest)) next rest)
 token_on t place at st [] n token rest names h = let less = shorter t (mode_of st.path) [] n token rest names (is_mode st.path) h in absurd (omega arith)
 token_on t place at st (c ∷ s) n token rest names h =
@@ -71,7 +71,7 @@ token_on t place at st (c ∷ s) n token rest names h =
     pred_suc (suc n) h = omega arith
 
 -- nothing is faulty where nothing is left
-no_fault : (t : List Entry) (mode : Mode) (n : ℕ) (fault : ScanFault) → first t mode [] ≡ behind_bytes n (refused fault) → ⊥
+no_fault : (t : List Entry) (mode : Mode) (n : ℕ) (fault : ScanFault) → first t mode [] ≡ after_bytes n (refused fault) → ⊥
 unfolding first
 no_fault t ordinary n fault e = cc
 no_fault t in_svg n fault e = cc
@@ -79,7 +79,7 @@ no_fault t (rcdata name) n fault e = cc
 no_fault t (raw name) n fault e = cc
 no_fault t script n fault e = cc
 
-pub fault_on : (t : List Entry) (place : ℕ → ℕ) (at n : ℕ) (st : Construction) (fault : ScanFault) (s : List ℕ) → first t (mode_of st.path) s ≡ behind_bytes n (refused fault) → tree_from t place 0 at st s ≡ refused_by (rule_of fault) (place (at + n))
+pub fault_on : (t : List Entry) (place : ℕ → ℕ) (at n : ℕ) (st : Construction) (fault : ScanFault) (s : List ℕ) → first t (mode_of st.path) s ≡ after_bytes n (refused fault) → tree_from t place 0 at st s ≡ refused_by (rule_of fault) (place (at + n))
 fault_on t place at n st fault [] e = absurd (no_fault t (mode_of st.path) n fault e)
 fault_on t place at n st fault (c ∷ s) e = rw e refl
 
@@ -94,7 +94,7 @@ abbrev pub is_foreign : Mode → Bool
 is_foreign in_svg = true
 is_foreign mode = false
 
-pub first_here : (t : List Entry) (mode : Mode) (s : List ℕ) → reads_markup mode ≡ true → first t mode s ≡ next_here t (is_foreign mode) (behind_empty_tags s)
+pub first_here : (t : List Entry) (mode : Mode) (s : List ℕ) → reads_markup mode ≡ true → first t mode s ≡ next_here t (is_foreign mode) (after_empty_tags s)
 unfolding first
 first_here t ordinary s h = refl
 first_here t in_svg s h = refl
@@ -107,14 +107,14 @@ slash_opens : (c : ℕ) (s : List ℕ) → opens_markup (47 ∷ c ∷ s) ≡ tru
 unfolding is_letter
 slash_opens c s = refl
 
-pub no_empty_tag : (s : List ℕ) → begins_markup s ≡ false → behind_empty_tags s ≡ behind_none s
+pub no_empty_tag : (s : List ℕ) → begins_markup s ≡ false → after_empty_tags s ≡ nothing_skipped s
 unfolding begins_markup
 no_empty_tag [] h = refl
 no_empty_tag (a ∷ []) h = refl
 no_empty_tag (a ∷ b ∷ []) h = refl
 no_empty_tag (a ∷ b ∷ c ∷ s) h = by (a == 60) refl (b == 47) refl (c == 62) h
   where
-    by : (x : Bool) → (a == 60) ≡ x → (y : Bool) → (b == 47) ≡ y → (z : Bool) → x && opens_markup (b ∷ c ∷ s) ≡ false → cond (x && (y && z)) (three_more (behind_empty_tags s)) (behind_none (a ∷ b ∷ c ∷ s)) ≡ behind_none (a ∷ b ∷ c ∷ s)
+    by : (x : Bool) → (a == 60) ≡ x → (y : Bool) → (b == 47) ≡ y → (z : Bool) → x && opens_markup (b ∷ c ∷ s) ≡ false → cond (x && (y && z)) (three_more (after_empty_tags s)) (nothing_skipped (a ∷ b ∷ c ∷ s)) ≡ nothing_skipped (a ∷ b ∷ c ∷ s)
     by true e true f true h = let same : b ≡ 47 = eqb-true b 47 f in let opens : opens_markup (b ∷ c ∷ s) ≡ true = rw same (slash_opens c s) in absurd (cc)
     by true e true f false h = refl
     by true e false f z h = refl
@@ -122,14 +122,14 @@ no_empty_tag (a ∷ b ∷ c ∷ s) h = by (a == 60) refl (b == 47) refl (c == 62
 
 -- a byte that stands for itself, and the text after it
 plain_token : (t : List Entry) (mode : Mode) (c : ℕ) (s : List ℕ) → reads_markup mode ≡ true → ends_plain t false c s ≡ false
-    → first t mode (c ∷ s) ≡ behind_bytes 0 (taken (slice (c ∷ plain_front t false s)) (drop (length (plain_front t false s)) s))
+    → first t mode (c ∷ s) ≡ after_bytes 0 (taken (slice (c ∷ plain_front t false s)) (drop (length (plain_front t false s)) s))
 unfolding read_text
 plain_token t mode c s m h =
     let two = or_parts (begins_markup (c ∷ s)) (is_some (reference_in t c s)) h in
     let none : reference_in t c s ≡ None = none_there (reference_in t c s) two.1 in
     let front : plain_front t false (c ∷ s) ≡ c ∷ plain_front t false s = rw h refl in
     let text : read_text t false (c ∷ s) ≡ taken (slice (c ∷ plain_front t false s)) (drop (length (plain_front t false s)) s) = rw none (ap₂ (λ x k. taken (slice x) (drop k (c ∷ s))) front (ap length front)) in
-    first_here t mode (c ∷ s) m ∙ ap (next_here t (is_foreign mode)) (no_empty_tag (c ∷ s) two.0) ∙ rw two.0 (ap (behind_bytes 0) text)
+    first_here t mode (c ∷ s) m ∙ ap (next_here t (is_foreign mode)) (no_empty_tag (c ∷ s) two.0) ∙ rw two.0 (ap (after_bytes 0) text)
 
 front_short : (t : List Entry) (s : List ℕ) → length (plain_front t false s) ≤ length s
 front_short t [] = omega arith
@@ -163,9 +163,9 @@ abbrev pub MarkupOn : Stepped → Type 0
 MarkupOn (went es st) = reads_markup (mode_of st.path) ≡ true
 MarkupOn (stops rule n) = Unit {0}
 
-behind_on : (es : List Event) (o : Stepped) → MarkupOn o → MarkupOn (behind_events es o)
-behind_on es (went fs st) h = h
-behind_on es (stops rule n) h = tt
+after_on : (es : List Event) (o : Stepped) → MarkupOn o → MarkupOn (stepped_after_events es o)
+after_on es (went fs st) h = h
+after_on es (stops rule n) h = tt
 
 in_body_markup : reads_markup (mode_of under_body) ≡ true
 unfolding is_rcdata is_raw rcdata_names raw_names is_among
@@ -179,16 +179,16 @@ body_on c st h = by (is_in_blank st.path)
     by false = h
 
 body_made : (c : ℕ) (st : Construction) → MarkupOn (make_body (body_byte c) st)
-body_made c st = behind_on (start body false [] ∷ []) (body_byte c (moved st in_body under_body)) (body_on c (moved st in_body under_body) in_body_markup)
+body_made c st = after_on (start body false [] ∷ []) (body_byte c (moved st in_body under_body)) (body_on c (moved st in_body under_body) in_body_markup)
 
 head_closed : (c : ℕ) (st : Construction) → MarkupOn (close_head (make_body (body_byte c)) st)
-head_closed c st = behind_on (end head false ∷ []) (make_body (body_byte c) (moved st after_head under_html)) (body_made c (moved st after_head under_html))
+head_closed c st = after_on (end head false ∷ []) (make_body (body_byte c) (moved st after_head under_html)) (body_made c (moved st after_head under_html))
 
 head_made : (c : ℕ) (st : Construction) → MarkupOn (make_head (close_head (make_body (body_byte c))) st)
-head_made c st = behind_on (start head false [] ∷ []) (close_head (make_body (body_byte c)) (moved st in_head under_head)) (head_closed c (moved st in_head under_head))
+head_made c st = after_on (start head false [] ∷ []) (close_head (make_body (body_byte c)) (moved st in_head under_head)) (head_closed c (moved st in_head under_head))
 
 html_made : (c : ℕ) (st : Construction) → MarkupOn (make_html (make_head (close_head (make_body (body_byte c)))) st)
-html_made c st = behind_on (start html false [] ∷ []) (make_head (close_head (make_body (body_byte c))) (moved st before_head under_html)) (head_made c (moved st before_head under_html))
+html_made c st = after_on (start html false [] ∷ []) (make_head (close_head (make_body (body_byte c))) (moved st before_head under_html)) (head_made c (moved st before_head under_html))
 
 reach_on : (mode : InsertionMode) (c : ℕ) (st : Construction) → reads_markup (mode_of st.path) ≡ true → MarkupOn (reach_body mode (body_byte c) st)
 reach_on initial c st h = tt
@@ -242,7 +242,7 @@ byte_builds t place at st c s m h = text_token t place at st c s m h ∙ by (ste
         choose true e = after_none (tree_from t place 0 (at + 1) next (d ∷ s))
         choose false e = sym (text_token t place (at + 1) next d s m e)
 
-    by : (o : Stepped) → MarkupOn o → stepped place at (then_step o (λ next. steps.behind_bytes 1 (step_bytes (plain_front t false s) next))) (λ next. tree_from t place (length (plain_front t false s)) (at + 1) next s)
+    by : (o : Stepped) → MarkupOn o → stepped place at (then_step o (λ next. steps.after_bytes 1 (step_bytes (plain_front t false s) next))) (λ next. tree_from t place (length (plain_front t false s)) (at + 1) next s)
         ≡ stepped place at o (λ next. tree_from t place 0 (at + 1) next s)
     by (went es next) k = stepped_later place at 1 es (step_bytes (plain_front t false s) next) (λ st2. tree_from t place (length (plain_front t false s)) (at + 1) st2 s) ∙ ap (after_events es) (on next s k)
     by (stops rule n) k = refl
@@ -261,7 +261,7 @@ text_builds t place at st c [] r m h =
     here : at + 1 ≡ at + suc (length {A = ℕ} [])
     here = omega arith
 
-    by : (o : Stepped) → stepped place at o (λ next. tree_from t place 0 (at + 1) next r) ≡ stepped place at (then_step o (λ next. steps.behind_bytes 1 (step_bytes [] next))) (λ next. tree_from t place 0 (at + suc (length {A = ℕ} [])) next r)
+    by : (o : Stepped) → stepped place at o (λ next. tree_from t place 0 (at + 1) next r) ≡ stepped place at (then_step o (λ next. steps.after_bytes 1 (step_bytes [] next))) (λ next. tree_from t place 0 (at + suc (length {A = ℕ} [])) next r)
     by (went es next) = ap (λ i. after_events es (tree_from t place 0 i next r)) here ∙ ap (λ x. after_events x (tree_from t place 0 (at + suc (length {A = ℕ} [])) next r)) (none es)
       where
         none : (es : List Event) → es ≡ es ++ []
@@ -275,7 +275,7 @@ text_builds t place at st c (d ∷ f) r m h =
     far = omega arith
 
     by : (o : Stepped) → MarkupOn o → ((next : Construction) → reads_markup (mode_of next.path) ≡ true → tree_from t place 0 (at + 1) next (d ∷ (f ++ r)) ≡ stepped place (at + 1) (step_bytes (d ∷ f) next) (λ n. tree_from t place 0 (at + 1 + suc (length f)) n r))
-        → stepped place at o (λ next. tree_from t place 0 (at + 1) next (d ∷ (f ++ r))) ≡ stepped place at (then_step o (λ next. steps.behind_bytes 1 (step_bytes (d ∷ f) next))) (λ next. tree_from t place 0 (at + suc (suc (length f))) next r)
+        → stepped place at o (λ next. tree_from t place 0 (at + 1) next (d ∷ (f ++ r))) ≡ stepped place at (then_step o (λ next. steps.after_bytes 1 (step_bytes (d ∷ f) next))) (λ next. tree_from t place 0 (at + suc (suc (length f))) next r)
     by (went es next) k more =
         ap (after_events es) (more next k ∙ ap (λ i. stepped place (at + 1) (step_bytes (d ∷ f) next) (λ n. tree_from t place 0 i n r)) far)
         ∙ sym (stepped_later place at 1 es (step_bytes (d ∷ f) next) (λ n. tree_from t place 0 (at + suc (suc (length f))) n r))

@@ -9,7 +9,7 @@ use Rattle.hm_scan.specs.Texts.{ends_plain}
 use Rattle.hm_tree.specs.Tokens.{taken, refused, seen, IsInText}
 use Rattle.hm_tree.specs.declared.tokens.ScanFault.{ScanFault}
 use Rattle.hm_tree.specs.declared.tokens.Spanned.{Spanned}
-use Rattle.hm_token_laws.specs.First.{Mode, behind_bytes, first, rule_of}
+use Rattle.hm_token_laws.specs.First.{Mode, after_bytes, first, rule_of}
 use Rattle.hm_lexer.specs.Ready.{is_told, plain_piece, next_ready, ready, part}
 use Rattle.hm_lexer.specs.Reading.{Reading, text_of}
 
@@ -21,7 +21,7 @@ left_of r = drop r.at (text_of r)
 pub record IsPart (old : Reading) (mode : Mode) (token : Spanned) (new : Reading) : Type 0 where
   pub passed : ℕ
   pub is_ready : ready old.names mode (left_of old) ≡ true
-  pub is : part old.names mode (left_of old) ≡ behind_bytes passed (taken (seen (text_of old) token.token) (drop token.to (text_of old)))
+  pub is : part old.names mode (left_of old) ≡ after_bytes passed (taken (seen (text_of old) token.token) (drop token.to (text_of old)))
   pub from : token.from ≡ old.at + passed
   pub moved : new ≡ record old { at = token.to }
   pub forward : token.from < token.to
@@ -38,14 +38,14 @@ pub record IsPartFaulty (old : Reading) (mode : Mode) (rule : Rule) (place : ℕ
   pub passed : ℕ
   pub fault : ScanFault
   pub is_ready : ready old.names mode (left_of old) ≡ true
-  pub is : part old.names mode (left_of old) ≡ behind_bytes passed (refused fault)
+  pub is : part old.names mode (left_of old) ≡ after_bytes passed (refused fault)
   pub rule_is : rule ≡ rule_of fault
   pub inside : old.at + passed < length (text_of old)
   pub place_is : place ≡ place_in old.source.placed old.source.end (old.at + passed)
 
 abbrev pub RefusesPart : Reading → Mode → Refused → Type 0
 RefusesPart old mode (answers.Page rule place) = IsPartFaulty old mode rule place
-RefusesPart old mode answers.Memory = Unit {0}
+RefusesPart old mode answers.OutOfMemory = Unit {0}
 
 -- no piece is taken of what stands next, and it is ready where its end is there
 abbrev pub IsWhole : List Entry → Mode → List ℕ → Type 0

@@ -11,7 +11,7 @@ use Rattle.hm_tree.specs.Tokens.{taken, refused, seen, BeginsAt, IsInText}
 use Rattle.hm_tree.specs.declared.tokens.ScanFault.{ScanFault}
 use Rattle.hm_tree.specs.declared.tokens.ScanFault.TheVariants as faults
 use Rattle.hm_tree.specs.declared.tokens.Spanned.{Spanned}
-use Rattle.hm_token_laws.specs.First.{Mode, ordinary, in_svg, rcdata, raw, script, Next, at_end, behind_bytes, first, rule_of}
+use Rattle.hm_token_laws.specs.First.{Mode, ordinary, in_svg, rcdata, raw, script, Next, at_end, after_bytes, first, rule_of}
 
 -- the names of character references, the text with its places, and how many bytes of the text were taken
 pub record Reading : Type 0 where
@@ -45,7 +45,7 @@ text_front script s = 0
 -- This token stands next, and was taken: it begins after `passed` bytes that stand for nothing.
 pub record IsTaken (old : Reading) (mode : Mode) (token : Spanned) (new : Reading) : Type 0 where
   pub passed : ℕ
-  pub is : next_of old mode ≡ behind_bytes passed (taken (seen (text_of old) token.token) (drop token.to (text_of old)))
+  pub is : next_of old mode ≡ after_bytes passed (taken (seen (text_of old) token.token) (drop token.to (text_of old)))
   pub from : token.from ≡ old.at + passed
   pub moved : new ≡ record old { at = token.to }
   pub forward : token.from < token.to
@@ -61,12 +61,12 @@ Gives old mode token new = MatchOption token ((next_of old mode ≡ at_end) × (
 pub record IsFaulty (old : Reading) (mode : Mode) (rule : Rule) (place : ℕ) : Type 0 where
   pub passed : ℕ
   pub fault : ScanFault
-  pub is : next_of old mode ≡ behind_bytes passed (refused fault)
-  pub of_text : fault ≢ faults.Memory
+  pub is : next_of old mode ≡ after_bytes passed (refused fault)
+  pub of_text : fault ≢ faults.OutOfMemory
   pub rule_is : rule ≡ rule_of fault
   pub place_is : place ≡ place_in old.source.placed old.source.end (old.at + passed)
 
 -- why the next token is refused; lack of memory has no cause in the text
 abbrev pub Refuses : Reading → Mode → Refused → Type 0
 Refuses old mode (answers.Page rule place) = IsFaulty old mode rule place
-Refuses old mode answers.Memory = Unit {0}
+Refuses old mode answers.OutOfMemory = Unit {0}

@@ -6,7 +6,7 @@ use Rattle.hm_refs.specs.References.{Reference}
 use Rattle.hm_scan.specs.Texts.{begins_markup, reference_in, ends_plain}
 use Rattle.hm_tree.specs.Tokens.{Scanned, taken, refused, slice, points}
 use Rattle.hm_tree.specs.declared.tokens.ScanFault.TheVariants as faults
-use Rattle.hm_token_laws.specs.First.{Mode, ordinary, in_svg, rcdata, raw, script, read_markup, read_here, Behind, behind_empty_tags, Next, at_end, behind_bytes, first}
+use Rattle.hm_token_laws.specs.First.{Mode, ordinary, in_svg, rcdata, raw, script, read_markup, read_here, Remainder, after_empty_tags, Next, at_end, after_bytes, first}
 
 -- ---- what is ready
 
@@ -37,12 +37,12 @@ here_ready t foreign (c ∷ s) = is_told c s && not (is_cut (read_here t foreign
 
 abbrev pub next_ready : Next → Bool
 next_ready at_end = false
-next_ready (behind_bytes n read) = not (is_cut read)
+next_ready (after_bytes n read) = not (is_cut read)
 
 -- The token at the front of these bytes is the same, whatever follows; of a text that may be longer, a piece is.
 unfoldable pub ready : List Entry → Mode → List ℕ → Bool
-ready t ordinary s = here_ready t false (behind_empty_tags s).rest
-ready t in_svg s = here_ready t true (behind_empty_tags s).rest
+ready t ordinary s = here_ready t false (after_empty_tags s).rest
+ready t in_svg s = here_ready t true (after_empty_tags s).rest
 ready t (rcdata name) s = next_ready (first t (rcdata name) s)
 ready t (raw name) s = next_ready (first t (raw name) s)
 ready t script s = next_ready (first t script s)
@@ -66,13 +66,13 @@ text_part t (c ∷ s) = piece_by (reference_in t c s) t c s
 abbrev pub here_part : List Entry → Bool → List ℕ → Scanned
 here_part t foreign s = if begins_markup s then read_markup t foreign s else text_part t s
 
-abbrev pub part_behind : List Entry → Bool → Behind → Next
-part_behind t foreign k = if is_null k.rest then at_end else behind_bytes k.count (here_part t foreign k.rest)
+abbrev pub part_after : List Entry → Bool → Remainder → Next
+part_after t foreign k = if is_null k.rest then at_end else after_bytes k.count (here_part t foreign k.rest)
 
 -- The next token; of ordinary text as much of it as is decided.
 unfoldable pub part : List Entry → Mode → List ℕ → Next
-part t ordinary s = part_behind t false (behind_empty_tags s)
-part t in_svg s = part_behind t true (behind_empty_tags s)
+part t ordinary s = part_after t false (after_empty_tags s)
+part t in_svg s = part_after t true (after_empty_tags s)
 part t (rcdata name) s = first t (rcdata name) s
 part t (raw name) s = first t (raw name) s
 part t script s = first t script s

@@ -2,7 +2,7 @@
 use Rattle.std.specs.Prelude.{ℕ, zero, suc, pred, ◌-◌, List, [], ◌∷◌, length, Option, Some, None, if◌then◌else◌}
 use Rattle.hm_refs.specs.Names.{Entry}
 use Rattle.hm_tree.specs.Tokens.{taken, refused}
-use Rattle.hm_token_laws.specs.First.{Next, at_end, behind_bytes}
+use Rattle.hm_token_laws.specs.First.{Next, at_end, after_bytes}
 use Rattle.hm_construction_laws.specs.Steps.{Construction, Stepped, went, stops, step}
 use Rattle.hm_construction_laws.specs.Trees.{mode_of}
 use Rattle.hm_lexer.specs.Ready.{ready, part}
@@ -22,8 +22,8 @@ stand_on (stops rule n) more = None
 
 abbrev pub stand_next : Construction → List ℕ → Next → (ℕ → Construction → Option Standing) → Option Standing
 stand_next st s at_end more = stand_at st s
-stand_next st s (behind_bytes n (refused fault)) more = None
-stand_next st s (behind_bytes n (taken token rest)) more = stand_on (step st token) (more (pred (length s - length rest)))
+stand_next st s (after_bytes n (refused fault)) more = None
+stand_next st s (after_bytes n (taken token rest)) more = stand_on (step st token) (more (pred (length s - length rest)))
 
 -- After all that is ready of what is left of a text; none where a token is refused. The first skip bytes are passed over.
 abbrev pub stands : List Entry → ℕ → Construction → List ℕ → Option Standing

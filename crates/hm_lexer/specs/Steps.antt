@@ -13,7 +13,7 @@ use Rattle.hm_tree.specs.declared.tokens.ScanFault.{ScanFault}
 use Rattle.hm_tree.specs.declared.tokens.ScanFault.TheVariants as faults
 use Rattle.hm_tree.specs.declared.tokens.Tag.{Tag}
 use Rattle.hm_tree.specs.declared.tokens.Token.{Token}
-use Rattle.hm_token_laws.specs.First.{Mode, ordinary, in_svg, rcdata, raw, script, Next, at_end, behind_bytes, Behind, behind_empty_tags, behind_none, read_here, read_inside, read_references, read_nothing, rule_of}
+use Rattle.hm_token_laws.specs.First.{Mode, ordinary, in_svg, rcdata, raw, script, Next, at_end, after_bytes, Remainder, after_empty_tags, nothing_skipped, read_here, read_inside, read_references, read_nothing, rule_of}
 use Rattle.hm_lexer.specs.Modes.{rcdata_name}
 use Rattle.hm_lexer.specs.declared.lexer.TextEnd.{TextEnd}
 
@@ -25,12 +25,12 @@ begins_empty_tag (a ∷ b ∷ c ∷ s) = a == 60 && (b == 47 && c == 62)
 begins_empty_tag s = false
 
 -- the bytes after what stands for nothing, and how many bytes that takes: only ordinary text has such bytes
-abbrev pub behind_nothing : Mode → List ℕ → Behind
-behind_nothing ordinary s = behind_empty_tags s
-behind_nothing in_svg s = behind_empty_tags s
-behind_nothing (rcdata name) s = behind_none s
-behind_nothing (raw name) s = behind_none s
-behind_nothing script s = behind_none s
+abbrev pub after_nothing : Mode → List ℕ → Remainder
+after_nothing ordinary s = after_empty_tags s
+after_nothing in_svg s = after_empty_tags s
+after_nothing (rcdata name) s = nothing_skipped s
+after_nothing (raw name) s = nothing_skipped s
+after_nothing script s = nothing_skipped s
 
 -- start tags are read, and what stands for nothing may come first
 abbrev pub has_markup : Mode → Bool
@@ -49,8 +49,8 @@ begins_nothing (raw name) s = false
 begins_nothing script s = false
 
 -- after it another place of the text begins
-pub record IsBehind (mode : Mode) (s : List ℕ) (at to : ℕ) : Type 0 where
-  pub is : behind_nothing mode (drop at s) ≡ record { count = to - at; rest = drop to s }
+pub record IsAfterNothing (mode : Mode) (s : List ℕ) (at to : ℕ) : Type 0 where
+  pub is : after_nothing mode (drop at s) ≡ record { count = to - at; rest = drop to s }
   pub forward : at ≤ to
   pub boundary : IsCharBoundary s to
   pub real : begins_nothing mode (drop to s) ≡ false
@@ -74,8 +74,8 @@ read_in t (rcdata name) s = read_inside t s (raw_end name s) (read_piece true t)
 read_in t (raw name) s = read_inside t s (raw_end name s) (read_piece false t)
 read_in t script s = read_inside t s (script_end s) (read_piece false t)
 
-abbrev pub next_behind : List Entry → Mode → Behind → Next
-next_behind t mode k = if is_null k.rest then at_end else behind_bytes k.count (read_in t mode k.rest)
+abbrev pub next_after : List Entry → Mode → Remainder → Next
+next_after t mode k = if is_null k.rest then at_end else after_bytes k.count (read_in t mode k.rest)
 
 -- ---- the end of an element's text
 
@@ -103,4 +103,4 @@ refusal_of faults.Cut place = answers.Page (rule_of faults.Cut) place
 refusal_of faults.BadName place = answers.Page (rule_of faults.BadName) place
 refusal_of faults.TooManyAttributes place = answers.Page (rule_of faults.TooManyAttributes) place
 refusal_of faults.BadDoctype place = answers.Page (rule_of faults.BadDoctype) place
-refusal_of faults.Memory place = answers.Memory
+refusal_of faults.OutOfMemory place = answers.OutOfMemory

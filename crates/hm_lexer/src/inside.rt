@@ -54,7 +54,7 @@ pub fn scan_up_to(
     requires end { IsEndAt (Some (to - at)) text.now at to }
     ensures ok { IfOk result (λ r. Reads (read_inside table.now.entries (drop at text.now) (Some (to - at)) (read_piece references table.now.entries)) text.now (token_of r.0 tag.new) r.1) }
     ensures err { IfErr result
-        (λ fault. fault ≢ ScanFault.Memory → read_inside table.now.entries (drop at text.now) (Some (to - at)) (read_piece references table.now.entries) ≡ refused fault) }
+        (λ fault. fault ≢ ScanFault.OutOfMemory → read_inside table.now.entries (drop at text.now) (Some (to - at)) (read_piece references table.now.entries) ≡ refused fault) }
     ensures forward { IfOk result (λ r. at < r.1) }
     ensures placed { IfOk result (λ r. BeginsAt at (token_of r.0 tag.new)) }
 {
@@ -62,8 +62,8 @@ pub fn scan_up_to(
         return scan_tag_into(alloc, text, at, table, tag);
     }
     if references {
-        let (token, behind) = scan_text(&text[..to as usize], at, true, table);
-        return Ok((Lexeme::of(token, tag), behind));
+        let (token, after) = scan_text(&text[..to as usize], at, true, table);
+        return Ok((Lexeme::of(token, tag), after));
     }
     Ok((Lexeme::Slice { from: at, to }, to))
 }
@@ -82,7 +82,7 @@ pub fn scan_raw_text(
     requires name { head_is is_small name.now ≡ true }
     ensures ok { IfOk result (λ r. Reads (read_inside table.now.entries (drop at text.now) (raw_end name.now (drop at text.now)) (read_piece false table.now.entries)) text.now (token_of r.0 tag.new) r.1) }
     ensures err { IfErr result
-        (λ fault. fault ≢ ScanFault.Memory → read_inside table.now.entries (drop at text.now) (raw_end name.now (drop at text.now)) (read_piece false table.now.entries) ≡ refused fault) }
+        (λ fault. fault ≢ ScanFault.OutOfMemory → read_inside table.now.entries (drop at text.now) (raw_end name.now (drop at text.now)) (read_piece false table.now.entries) ≡ refused fault) }
     ensures forward { IfOk result (λ r. at < r.1) }
     ensures placed { IfOk result (λ r. BeginsAt at (token_of r.0 tag.new)) }
 {
@@ -104,7 +104,7 @@ pub fn scan_script_text(
     requires size { length text.now < 2 ^ 32 }
     ensures ok { IfOk result (λ r. Reads (read_inside table.now.entries (drop at text.now) (script_end (drop at text.now)) (read_piece false table.now.entries)) text.now (token_of r.0 tag.new) r.1) }
     ensures err { IfErr result
-        (λ fault. fault ≢ ScanFault.Memory → read_inside table.now.entries (drop at text.now) (script_end (drop at text.now)) (read_piece false table.now.entries) ≡ refused fault) }
+        (λ fault. fault ≢ ScanFault.OutOfMemory → read_inside table.now.entries (drop at text.now) (script_end (drop at text.now)) (read_piece false table.now.entries) ≡ refused fault) }
     ensures forward { IfOk result (λ r. at < r.1) }
     ensures placed { IfOk result (λ r. BeginsAt at (token_of r.0 tag.new)) }
 {

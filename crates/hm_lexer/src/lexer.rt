@@ -11,11 +11,11 @@ ghost use Rattle.hm_token_laws.specs.First as tokens;
 ghost use Rattle.hm_lexer.specs.Modes.{mode_of, rcdata_name};
 ghost use Rattle.hm_lexer.specs.Parts.{GivesPart, IsWhole, RefusesPart, left_of};
 ghost use Rattle.hm_lexer.specs.Reading.{Gives, Refuses, text_front, text_of};
-ghost use Rattle.hm_lexer.specs.Steps.{Ends, IsBehind, IsLexer, has_markup, read_in, refusal_of};
+ghost use Rattle.hm_lexer.specs.Steps.{Ends, IsAfterNothing, IsLexer, has_markup, read_in, refusal_of};
 
 use crate::inside::{raw_text_end, scan_raw_text, scan_script_text, scan_up_to};
 use crate::modes::{Mode, RcdataName};
-use crate::ordinary::{behind_empty_tags, scan_here};
+use crate::ordinary::{after_empty_tags, scan_here};
 use crate::parts::scan_part;
 use hm_base::{Refused, Rule, SourceText};
 use hm_refs::Table;
@@ -72,7 +72,7 @@ fn refusal(source: &SourceText, fault: ScanFault, at: u32) -> Refused
         ScanFault::BadName => Rule::BadName,
         ScanFault::TooManyAttributes => Rule::TooManyAttributes,
         ScanFault::BadDoctype => Rule::BadDoctype,
-        ScanFault::Memory => return Refused::Memory,
+        ScanFault::OutOfMemory => return Refused::OutOfMemory,
     };
     Refused::Page {
         rule,
@@ -85,10 +85,10 @@ fn refusal(source: &SourceText, fault: ScanFault, at: u32) -> Refused
 fn token_start(text: &str, at: u32, mode: Mode) -> u32
     requires boundary { IsCharBoundary text.now at }
     requires size { length text.now < 2 ^ 32 }
-    ensures { IsBehind (mode_of mode) text.now at result }
+    ensures { IsAfterNothing (mode_of mode) text.now at result }
 {
     match mode {
-        Mode::Html | Mode::Foreign => behind_empty_tags(text, at),
+        Mode::Html | Mode::Foreign => after_empty_tags(text, at),
         Mode::Rcdata { .. } | Mode::Raw { .. } | Mode::Script => at,
     }
 }
@@ -224,7 +224,7 @@ impl<'a> Lexer<'a> {
                 }
                 Err(Refused::Page { rule, at })
             }
-            Err(Refused::Memory) => return Err(Refused::Memory),
+            Err(Refused::OutOfMemory) => return Err(Refused::OutOfMemory),
         }
     }
 
@@ -254,7 +254,7 @@ impl<'a> Lexer<'a> {
                 }
                 Err(Refused::Page { rule, at })
             }
-            Err(Refused::Memory) => return Err(Refused::Memory),
+            Err(Refused::OutOfMemory) => return Err(Refused::OutOfMemory),
         }
     }
 
@@ -262,7 +262,7 @@ impl<'a> Lexer<'a> {
     #[inline(always)]
     fn part_of_text(&mut self, mode: Mode, from: u32) -> Option<Placed>
         requires markup { has_markup (mode_of mode) ≡ true }
-        requires start { IsBehind (mode_of mode) (text_of self.old) self.old.at from }
+        requires start { IsAfterNothing (mode_of mode) (text_of self.old) self.old.at from }
         requires inside { from < length (text_of self.old) }
         requires begins { texts.begins_markup (drop from (text_of self.old)) ≡ false }
         ensures { (tag : places.Tag) → GivesPart self.old (mode_of mode) (next_of result tag) self.new }
@@ -308,11 +308,11 @@ impl<'a> Lexer<'a> {
         from: u32,
         tag: &mut Tag,
     ) -> Result<(Lexeme, u32), ScanFault>
-        requires start { IsBehind (mode_of mode) (text_of self.old) self.old.at from }
+        requires start { IsAfterNothing (mode_of mode) (text_of self.old) self.old.at from }
         requires inside { from < length (text_of self.old) }
         ensures ok { IfOk result (λ r. Reads (read_in self.old.names (mode_of mode) (drop from (text_of self.old))) (text_of self.old) (token_of r.0 tag.new) r.1) }
         ensures err { IfErr result
-            (λ fault. fault ≢ ScanFault.Memory → read_in self.old.names (mode_of mode) (drop from (text_of self.old)) ≡ refused fault) }
+            (λ fault. fault ≢ ScanFault.OutOfMemory → read_in self.old.names (mode_of mode) (drop from (text_of self.old)) ≡ refused fault) }
         ensures forward { IfOk result (λ r. from < r.1) }
         ensures placed { IfOk result (λ r. BeginsAt (from + text_front (mode_of mode) (drop from (text_of self.old))) (token_of r.0 tag.new)) }
         ensures same { self.new ≡ self.old }
@@ -339,7 +339,7 @@ impl<'a> Lexer<'a> {
         requires { self.old.at < length (text_of self.old) }
         ensures ok { IfOk result (λ r. Reads (read_in self.old.names (tokens.rcdata (rcdata_name name)) (drop self.old.at (text_of self.old))) (text_of self.old) (token_of r.0 tag.new) r.1) }
         ensures err { IfErr result
-            (λ fault. fault ≢ ScanFault.Memory → read_in self.old.names (tokens.rcdata (rcdata_name name)) (drop self.old.at (text_of self.old)) ≡ refused fault) }
+            (λ fault. fault ≢ ScanFault.OutOfMemory → read_in self.old.names (tokens.rcdata (rcdata_name name)) (drop self.old.at (text_of self.old)) ≡ refused fault) }
         ensures forward { IfOk result (λ r. self.old.at < r.1) }
         ensures placed { IfOk result (λ r. BeginsAt self.old.at (token_of r.0 tag.new)) }
         ensures same { self.new ≡ self.old }

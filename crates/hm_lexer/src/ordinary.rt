@@ -7,7 +7,7 @@ ghost use Rattle.hm_tree.specs.Lexemes.{token_of};
 ghost use Rattle.hm_tree.specs.Tokens.{BeginsAt, Reads, refused};
 ghost use Rattle.hm_lexer.specs.Reading.{front_here, markup_front};
 ghost use Rattle.hm_lexer.specs.Steps as steps;
-ghost use Rattle.hm_lexer.specs.Steps.{IsBehind, read_with};
+ghost use Rattle.hm_lexer.specs.Steps.{IsAfterNothing, read_with};
 
 use hm_refs::Table;
 use hm_scan::{
@@ -28,10 +28,10 @@ fn begins_empty_tag(bytes: &[u8]) -> bool
 }
 
 /// The first place at or after `at` where no `</>` begins; each one before it is skipped (#end-tag-open-state).
-pub fn behind_empty_tags(text: &str, at: u32) -> u32
+pub fn after_empty_tags(text: &str, at: u32) -> u32
     requires boundary { IsCharBoundary text.now at }
     requires size { length text.now < 2 ^ 32 }
-    ensures { IsBehind tokens.ordinary text.now at result }
+    ensures { IsAfterNothing tokens.ordinary text.now at result }
 {
     let bytes = text.as_bytes();
     let mut from = at as usize;
@@ -67,7 +67,7 @@ fn scan_markup(
     ensures ok { IfOk result
         (λ r. Reads (read_markup table.now.entries foreign (drop at text.now)) text.now (token_of r.0 tag.new) r.1) }
     ensures err { IfErr result
-        (λ fault. fault ≢ ScanFault.Memory → read_markup table.now.entries foreign (drop at text.now) ≡ refused fault) }
+        (λ fault. fault ≢ ScanFault.OutOfMemory → read_markup table.now.entries foreign (drop at text.now) ≡ refused fault) }
     ensures forward { IfOk result (λ r. at < r.1) }
     ensures placed { IfOk result (λ r. BeginsAt (at + markup_front foreign (drop at text.now)) (token_of r.0 tag.new)) }
 {
@@ -100,7 +100,7 @@ pub fn scan_here(
     ensures ok { IfOk result
         (λ r. Reads (read_here table.now.entries foreign (drop at text.now)) text.now (token_of r.0 tag.new) r.1) }
     ensures err { IfErr result
-        (λ fault. fault ≢ ScanFault.Memory → read_here table.now.entries foreign (drop at text.now) ≡ refused fault) }
+        (λ fault. fault ≢ ScanFault.OutOfMemory → read_here table.now.entries foreign (drop at text.now) ≡ refused fault) }
     ensures forward { IfOk result (λ r. at < r.1) }
     ensures placed { IfOk result (λ r. BeginsAt (at + front_here foreign (drop at text.now)) (token_of r.0 tag.new)) }
 {

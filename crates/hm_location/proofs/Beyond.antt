@@ -3,8 +3,8 @@ use Rattle.std.proofs.Common.{◌≡◌, ℕ, zero, suc, ◌+◌, ◌≤◌, Boo
 use Rattle.std.proofs.lemmas.List.{drop_all}
 use Rattle.hm_base.specs.Bytes.{head_is}
 use Rattle.hm_location.specs.Lines.{column_of, columns, ends_line, front_from, line_ends, line_front, line_of}
-use Rattle.hm_location.specs.Shown.{front_shown, line_rest, rest_shown, shown_before, shown_behind, shown_place}
-use Rattle.hm_location.specs.declared.shown.TheConstants.{BEFORE, BEHIND}
+use Rattle.hm_location.specs.Shown.{front_shown, line_rest, rest_shown, shown_before, shown_after, shown_place}
+use Rattle.hm_location.specs.declared.shown.TheConstants.{BEFORE, AFTER_PLACE}
 
 ends_beyond : (s : List ℕ) (n : ℕ) → length s ≤ n → line_ends n s ≡ line_ends (length s) s
 ends_beyond [] zero l = refl
@@ -47,5 +47,5 @@ beyond s n l =
       line = ap (λ k. 1 + k) (sym (ends_beyond s n l));
       column = ap (λ q. 1 + columns q) front;
       front = ap (λ p. shown_before BEFORE (line_front s p)) here ∙ ap (shown_before BEFORE) front ∙ ap (λ p. shown_before BEFORE (line_front s p)) (sym there);
-      rest = ap (λ p. shown_behind BEHIND (line_rest (drop p s))) here ∙ ap (λ q. shown_behind BEHIND (line_rest q)) (none ∙ sym none_there) ∙ ap (λ p. shown_behind BEHIND (line_rest (drop p s))) (sym there);
+      rest = ap (λ p. shown_after AFTER_PLACE (line_rest (drop p s))) here ∙ ap (λ q. shown_after AFTER_PLACE (line_rest q)) (none ∙ sym none_there) ∙ ap (λ p. shown_after AFTER_PLACE (line_rest (drop p s))) (sym there);
     }

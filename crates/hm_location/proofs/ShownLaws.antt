@@ -4,9 +4,9 @@ use Rattle.std.proofs.lemmas.List.{at_drop_all, at_drop_more, drop-drop, drop-ta
 use Rattle.std.proofs.Math.Seq.{take-append_seam}
 use Rattle.std.specs.Fmt.{is_char_start}
 use Rattle.hm_base.specs.Bytes.{head_is}
-use Rattle.hm_location.specs.declared.shown.TheConstants.{BEFORE, BEHIND}
+use Rattle.hm_location.specs.declared.shown.TheConstants.{BEFORE, AFTER_PLACE}
 use Rattle.hm_location.specs.Lines.{line_front}
-use Rattle.hm_location.specs.Shown.{is_break, line_rest, from_char, shown_before, shown_behind, shown_place, front_shown, rest_shown, line_at, IsPart}
+use Rattle.hm_location.specs.Shown.{is_break, line_rest, from_char, shown_before, shown_after, shown_place, front_shown, rest_shown, line_at, IsPart}
 
 -- ---- up to the end of the line
 
@@ -74,40 +74,40 @@ before_cut n q l = rw (gt (length q) n l) refl
 abbrev goes_on : ℕ → List ℕ → Bool
 goes_on i s = head_is (λ c. not (is_char_start c)) (drop i s)
 
-pub back_on : (s : List ℕ) (i : ℕ) → 0 < i → i < length s → is_char_start (get_or s i 0) ≡ false → shown_behind i s ≡ shown_behind (i - 1) s
-unfolding shown_behind
+pub back_on : (s : List ℕ) (i : ℕ) → 0 < i → i < length s → is_char_start (get_or s i 0) ≡ false → shown_after i s ≡ shown_after (i - 1) s
+unfolding shown_after
 back_on s zero p l e = absurd (omega arith)
 back_on s (suc i) p l e =
     let h : goes_on (suc i) s ≡ true = at_drop_more (λ q. head_is (λ c. not (is_char_start c)) q) s (suc i) 0 l ∙ rw e refl in
     let j : suc i - 1 ≡ i = omega arith in
     rw (h, j) refl
 
-pub back_ends : (s : List ℕ) (i : ℕ) → i < length s → is_char_start (get_or s i 0) ≡ true → take i s ≡ shown_behind i s
-unfolding shown_behind
+pub back_ends : (s : List ℕ) (i : ℕ) → i < length s → is_char_start (get_or s i 0) ≡ true → take i s ≡ shown_after i s
+unfolding shown_after
 back_ends s zero l e = refl
 back_ends s (suc i) l e =
     let h : goes_on (suc i) s ≡ false = at_drop_more (λ q. head_is (λ c. not (is_char_start c)) q) s (suc i) 0 l ∙ rw e refl in
     rw h refl
 
-pub back_all : (s : List ℕ) (i : ℕ) → length s ≤ i → s ≡ shown_behind i s
-unfolding shown_behind
+pub back_all : (s : List ℕ) (i : ℕ) → length s ≤ i → s ≡ shown_after i s
+unfolding shown_after
 back_all [] zero l = refl
 back_all (c ∷ s) zero l = absurd (omega arith)
 back_all s (suc i) l =
     let h : goes_on (suc i) s ≡ false = at_drop_all (λ q. head_is (λ c. not (is_char_start c)) q) s (suc i) l in
     rw h (sym (take_all (suc i) s l))
 
-pub behind_short : (n : ℕ) (s : List ℕ) → length (shown_behind n s) ≤ n
-unfolding shown_behind
-behind_short zero s = omega arith
-behind_short (suc n) s = by_test (goes_on (suc n) s) (behind_short n s)
+pub after_short : (n : ℕ) (s : List ℕ) → length (shown_after n s) ≤ n
+unfolding shown_after
+after_short zero s = omega arith
+after_short (suc n) s = by_test (goes_on (suc n) s) (after_short n s)
   where
     short : (k : ℕ) (q : List ℕ) → length (take k q) ≤ k
     short zero q = omega arith
     short (suc k) [] = omega arith
     short (suc k) (c ∷ q) = let h = short k q in omega (arith, h)
 
-    by_test : (b : Bool) → length (shown_behind n s) ≤ n → length (cond b (shown_behind n s) (take (suc n) s)) ≤ suc n
+    by_test : (b : Bool) → length (shown_after n s) ≤ n → length (cond b (shown_after n s) (take (suc n) s)) ≤ suc n
     by_test true h = omega (arith, h)
     by_test false h = short (suc n) s
 
@@ -121,14 +121,14 @@ both_parts s begin place cut kept len l m n =
     let i : cut + (place - begin - cut) ≡ place - begin = omega (arith, m) in
     let front : drop cut (take (place - begin) (drop begin s)) ≡ take (place - begin - cut) (drop (begin + cut) s) =
     ap (λ a. drop cut (take a (drop begin s))) (sym i) ∙ drop-take cut (place - begin - cut) (drop begin s) ∙ ap (take (place - begin - cut)) (drop-drop cut begin s ∙ refl) in
-    let behind : take kept (drop (place - begin - cut) (drop (begin + cut) s)) ≡ take kept (take len (drop place s)) =
+    let after : take kept (drop (place - begin - cut) (drop (begin + cut) s)) ≡ take kept (take len (drop place s)) =
     ap (take kept) (drop-drop (place - begin - cut) (begin + cut) s ∙ ap (λ a. drop a s) j) ∙ sym (take-take kept len (drop place s) n) in
-    ap (λ a. take a (drop (begin + cut) s)) k ∙ take-add (place - begin - cut) kept (drop (begin + cut) s) ∙ ap (λ q. take (place - begin - cut) (drop (begin + cut) s) ++ q) behind ∙ ap (λ q. q ++ take kept (take len (drop place s))) (sym front)
+    ap (λ a. take a (drop (begin + cut) s)) k ∙ take-add (place - begin - cut) kept (drop (begin + cut) s) ∙ ap (λ q. take (place - begin - cut) (drop (begin + cut) s) ++ q) after ∙ ap (λ q. q ++ take kept (take len (drop place s))) (sym front)
 
 pub is_part : (bytes front rest : List ℕ) (cut kept : ℕ) → bytes ≡ drop cut front ++ take kept rest → IsPart bytes (front ++ rest)
 is_part bytes front rest cut kept e = record {
   before = take cut front;
-  behind = drop kept rest;
+  after = drop kept rest;
   whole =
       ap (λ q. take cut front ++ q ++ drop kept rest) e
       ∙ ap (λ q. q ++ drop kept rest) (sym (append_assoc (take cut front) (drop cut front) (take kept rest)))
@@ -137,8 +137,8 @@ is_part bytes front rest cut kept e = record {
       ∙ ap (λ q. front ++ q) (take-append-drop kept rest);
 }
 
-pub back_zero : (s : List ℕ) (i k : ℕ) → i ≡ 0 → k ≡ 0 → take k s ≡ shown_behind i s
-unfolding shown_behind
+pub back_zero : (s : List ℕ) (i k : ℕ) → i ≡ 0 → k ≡ 0 → take k s ≡ shown_after i s
+unfolding shown_after
 back_zero s i k e f = rw (e, f) refl
 
 -- ---- what is shown of a place
@@ -155,21 +155,21 @@ pub record IsShown (s : List ℕ) (at : ℕ) (bytes : List ℕ) : Type 0 where
 
 pub all_shown : (s : List ℕ) (at p begin cut kept len m : ℕ) → p ≡ shown_place s at → begin ≤ p → take (p - begin) (drop begin s) ≡ line_front s p → take len (drop p s) ≡ line_rest (drop p s) → m ≡ len
     → cut ≤ length (take (p - begin) (drop begin s)) → drop cut (take (p - begin) (drop begin s)) ≡ shown_before BEFORE (take (p - begin) (drop begin s))
-    → kept ≤ length (take m (drop p s)) → take kept (take m (drop p s)) ≡ shown_behind BEHIND (take m (drop p s))
+    → kept ≤ length (take m (drop p s)) → take kept (take m (drop p s)) ≡ shown_after AFTER_PLACE (take m (drop p s))
     → IsShown s at (take (p + kept - (begin + cut)) (drop (begin + cut) s))
 unfolding front_shown rest_shown
 all_shown s at p begin cut kept len m e l f r n c d k h =
     let rest : take m (drop p s) ≡ line_rest (drop p s) = ap (λ a. take a (drop p s)) n ∙ r in
     let parts = both_parts s begin p cut kept m l (omega (arith, c, take_short (p - begin) (drop begin s))) (omega (arith, k, take_short m (drop p s))) in
     let before : drop cut (take (p - begin) (drop begin s)) ≡ shown_before BEFORE (line_front s p) = d ∙ ap (shown_before BEFORE) f in
-    let behind : take kept (take m (drop p s)) ≡ shown_behind BEHIND (line_rest (drop p s)) = h ∙ ap (shown_behind BEHIND) rest in
-    let is : take (p + kept - (begin + cut)) (drop (begin + cut) s) ≡ shown_before BEFORE (line_front s p) ++ shown_behind BEHIND (line_rest (drop p s)) = parts ∙ ap (λ q. q ++ take kept (take m (drop p s))) before ∙ ap (λ q. shown_before BEFORE (line_front s p) ++ q) behind in
+    let after : take kept (take m (drop p s)) ≡ shown_after AFTER_PLACE (line_rest (drop p s)) = h ∙ ap (shown_after AFTER_PLACE) rest in
+    let is : take (p + kept - (begin + cut)) (drop (begin + cut) s) ≡ shown_before BEFORE (line_front s p) ++ shown_after AFTER_PLACE (line_rest (drop p s)) = parts ∙ ap (λ q. q ++ take kept (take m (drop p s))) before ∙ ap (λ q. shown_before BEFORE (line_front s p) ++ q) after in
     let bytes = take (p + kept - (begin + cut)) (drop (begin + cut) s) in
     let whole : take (p - begin) (drop begin s) ++ take m (drop p s) ≡ line_front s p ++ line_rest (drop p s) = ap (λ q. q ++ take m (drop p s)) f ∙ ap (λ q. line_front s p ++ q) rest in
     let part : IsPart bytes (line_front s p ++ line_rest (drop p s)) = subst (λ q. IsPart bytes q) whole (is_part bytes (take (p - begin) (drop begin s)) (take m (drop p s)) cut kept parts) in
     record {
-      is = subst (λ a. take (p + kept - (begin + cut)) (drop (begin + cut) s) ≡ shown_before BEFORE (line_front s a) ++ shown_behind BEHIND (line_rest (drop a s))) e is;
-      short = omega (arith, ap length is, length-append (shown_before BEFORE (line_front s p)) (shown_behind BEHIND (line_rest (drop p s))), before_short BEFORE (line_front s p), behind_short BEHIND (line_rest (drop p s)));
+      is = subst (λ a. take (p + kept - (begin + cut)) (drop (begin + cut) s) ≡ shown_before BEFORE (line_front s a) ++ shown_after AFTER_PLACE (line_rest (drop a s))) e is;
+      short = omega (arith, ap length is, length-append (shown_before BEFORE (line_front s p)) (shown_after AFTER_PLACE (line_rest (drop p s))), before_short BEFORE (line_front s p), after_short AFTER_PLACE (line_rest (drop p s)));
       part = subst (λ a. IsPart (take (p + kept - (begin + cut)) (drop (begin + cut) s)) (line_at s a)) e part;
     }
 

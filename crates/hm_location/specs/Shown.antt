@@ -3,7 +3,7 @@ use Rattle.std.specs.Prelude.{◌≡◌, ℕ, zero, suc, ◌-◌, Bool, not, ◌
 use Rattle.std.specs.Fmt.{is_char_start}
 use Rattle.hm_base.specs.Bytes.{head_is}
 use Rattle.hm_location.specs.Lines.{line_front}
-use Rattle.hm_location.specs.declared.shown.TheConstants.{BEFORE, BEHIND}
+use Rattle.hm_location.specs.declared.shown.TheConstants.{BEFORE, AFTER_PLACE}
 
 abbrev pub is_break : ℕ → Bool
 is_break c = c == 10 || c == 13
@@ -32,19 +32,19 @@ abbrev pub shown_before : ℕ → List ℕ → List ℕ
 shown_before n q = if nat_le (length q) n then q else from_char (drop (length q - n) q)
 
 -- The first n bytes from a place on, or fewer: a character is shown whole or not at all.
-unfoldable pub shown_behind : ℕ → List ℕ → List ℕ
-shown_behind zero s = []
-shown_behind (suc n) s = if head_is (λ c. not (is_char_start c)) (drop (suc n) s) then shown_behind n s else take (suc n) s
+unfoldable pub shown_after : ℕ → List ℕ → List ℕ
+shown_after zero s = []
+shown_after (suc n) s = if head_is (λ c. not (is_char_start c)) (drop (suc n) s) then shown_after n s else take (suc n) s
 
 -- the bytes that are shown before the place, and all that are shown
 unfoldable pub front_shown : List ℕ → ℕ → List ℕ
 front_shown s at = shown_before BEFORE (line_front s (shown_place s at))
 
 unfoldable pub rest_shown : List ℕ → ℕ → List ℕ
-rest_shown s at = shown_behind BEHIND (line_rest (drop (shown_place s at) s))
+rest_shown s at = shown_after AFTER_PLACE (line_rest (drop (shown_place s at) s))
 
 -- these bytes are a part of a line
 pub record IsPart (bytes line : List ℕ) : Type 0 where
   pub before : List ℕ
-  pub behind : List ℕ
-  pub whole : before ++ bytes ++ behind ≡ line
+  pub after : List ℕ
+  pub whole : before ++ bytes ++ after ≡ line

@@ -8,4 +8,4 @@ mod shown;
 
 pub use explanation::{explained_page, settled_line};
 pub use place::{Location, is_char_start, location_of, without_mark};
-pub use shown::{BEFORE, BEHIND, ShownLine, shown_line};
+pub use shown::{AFTER_PLACE, BEFORE, ShownLine, shown_line};

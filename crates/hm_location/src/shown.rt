@@ -1,7 +1,7 @@
 //! The line of a byte, as it is shown.
 ghost use Rattle.std.specs.Prelude.{◌≡◌, ◌++◌, ◌≤◌, drop, length, take};
-ghost use Rattle.hm_location.specs.declared.shown.TheConstants.{BEFORE, BEHIND};
-ghost use Rattle.hm_location.specs.Shown.{IsPart, front_shown, line_at, line_rest, rest_shown, shown_before, shown_behind, shown_place};
+ghost use Rattle.hm_location.specs.declared.shown.TheConstants.{BEFORE, AFTER_PLACE};
+ghost use Rattle.hm_location.specs.Shown.{IsPart, front_shown, line_at, line_rest, rest_shown, shown_before, shown_after, shown_place};
 
 use crate::place::{is_char_start, line_start};
 
@@ -9,7 +9,7 @@ use crate::place::{is_char_start, line_start};
 pub const BEFORE: usize = 60;
 
 /// The most bytes that are shown from a place on.
-pub const BEHIND: usize = 40;
+pub const AFTER_PLACE: usize = 40;
 
 /// A part of a line, and how many bytes of it stand before the place.
 #[derive(Clone, Copy)]
@@ -35,7 +35,7 @@ pub fn shown_line(text: &[u8], at: usize) -> ShownLine<'_>
     let front = &text[begin..place];
     let rest = &text[place..place + rest_len(&text[place..])];
     let cut = cut_before(front);
-    let kept = cut_behind(rest);
+    let kept = cut_after(rest);
     ShownLine {
         bytes: &text[begin + cut..place + kept],
         front: front.len() - cut,
@@ -86,11 +86,11 @@ fn cut_before(front: &[u8]) -> usize
 }
 
 /// How many bytes from the place on are shown.
-fn cut_behind(rest: &[u8]) -> usize
+fn cut_after(rest: &[u8]) -> usize
     ensures inside { result ≤ length rest.now }
-    ensures shown { take result rest.now ≡ shown_behind BEHIND rest.now }
+    ensures shown { take result rest.now ≡ shown_after AFTER_PLACE rest.now }
 {
-    let mut to = BEHIND;
+    let mut to = AFTER_PLACE;
     while to > 0 && to < rest.len() && !is_char_start(rest[to]) {
         to -= 1;
     }

@@ -171,15 +171,15 @@ gap_by_byte needed (c ∷ ws) d more s h feed plain =
     by_test (c == 13) refl both.0 (newlines_plain more s parts.1) (spaces_lines ws true d (more ++ s) both.1 feed return) (spaces_lines ws false d (more ++ s) both.1 feed return)
   where
     by_test : (b : Bool) → (c == 13) ≡ b → is_space c ≡ true → newlines (more ++ s) ≡ more ++ newlines s → HasSpaces true ws d (more ++ s) → HasSpaces false ws d (more ++ s) → HasGap needed (c ∷ ws) (d ∷ more) s
-    by_test true e space behind one two = record {
+    by_test true e space after one two = record {
       other = 10 ∷ one.other;
       gap_is = some_gap needed 10 one.other feed_is_space one.blank;
-      is = rw e (ap (λ r. 10 ∷ r) (one.is ∙ ap (λ r. one.other ++ d ∷ r) behind));
+      is = rw e (ap (λ r. 10 ∷ r) (one.is ∙ ap (λ r. one.other ++ d ∷ r) after));
     }
-    by_test false e space behind one two = record {
+    by_test false e space after one two = record {
       other = c ∷ two.other;
       gap_is = some_gap needed c two.other space two.blank;
-      is = rw e (ap (λ r. c ∷ r) (two.is ∙ ap (λ r. two.other ++ d ∷ r) behind));
+      is = rw e (ap (λ r. c ∷ r) (two.is ∙ ap (λ r. two.other ++ d ∷ r) after));
     }
 
 pub gap_lines : (needed : Bool) (gap piece s : List ℕ) → is_gap needed gap ≡ true → IsInLine piece → HasGap needed gap piece s

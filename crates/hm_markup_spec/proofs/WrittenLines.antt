@@ -6,10 +6,10 @@ use Rattle.hm_base.specs.Forms.{is_small, is_tag_byte, is_tag_name, is_attribute
 use Rattle.hm_base.specs.Walks.{Attribute}
 use Rattle.hm_markup_spec.specs.Gaps.{IsWord}
 use Rattle.hm_markup_spec.specs.Doctypes.{IsPlainDoctype, IsLegacyDoctype, WritesDoctype}
-use Rattle.hm_markup_spec.specs.Tags.{Form, bare, unquoted, double, single, Writes, IsAssigned, parts_attributes, parts_slash, WritesAttribute, WritesAttributes, tag_end, WritesStart, WritesEnd}
+use Rattle.hm_markup_spec.specs.Tags.{Quoting, bare, unquoted, double, single, Writes, IsAssigned, parts_attributes, parts_slash, WritesAttribute, WritesAttributes, tag_end, WritesStart, WritesEnd}
 use Rattle.hm_markup_spec.proofs.Gaps.{gap_blank, blank_gap}
 use Rattle.hm_markup_spec.proofs.LineEnds.{newlines, newlines_after, is_no_return, newlines_plain, IsInLine, lowered_plain, lowered_in_line, gap_lines}
-use Rattle.hm_markup_spec.proofs.Readable.{ends_value, IsBehind, closing_behind, attributes_behind}
+use Rattle.hm_markup_spec.proofs.Readable.{ends_value, MayFollowValue, closing_after, attributes_after}
 
 -- with line ends as LF in b and in after, b is still written before after
 pub record HasLines (W : List ℕ → List ℕ → Type 0) (b after : List ℕ) : Type 0 where
@@ -58,27 +58,27 @@ assigned_lines v b after value w =
     }
 
 -- what ends a value still ends it
-pub behind_lines : (form : Form) (after : List ℕ) → IsBehind form after → IsBehind form (newlines after)
-behind_lines bare after h = tt
-behind_lines unquoted [] h = absurd (cc)
-behind_lines unquoted (c ∷ s) h = by_test (c == 13)
+pub after_lines : (form : Quoting) (after : List ℕ) → MayFollowValue form after → MayFollowValue form (newlines after)
+after_lines bare after h = tt
+after_lines unquoted [] h = absurd (cc)
+after_lines unquoted (c ∷ s) h = by_test (c == 13)
   where
     by_test : (b : Bool) → head_is ends_value (if b then 10 ∷ newlines_after true s else c ∷ newlines s) ≡ true
     by_test true = unfold is_space in refl
     by_test false = h
-behind_lines double after h = tt
-behind_lines single after h = tt
+after_lines double after h = tt
+after_lines single after h = tt
 
 -- each value of these attributes keeps its meaning where it stands in a tag
 abbrev pub ValuesHaveLines : Writes → List Attribute → Type 0
-ValuesHaveLines writes attributes = (form : Form) (a : Attribute) (b after : List ℕ) → Contains attributes a → IsBehind form after → writes form a.value b after → HasLines (writes form a.value) b after
+ValuesHaveLines writes attributes = (form : Quoting) (a : Attribute) (b after : List ℕ) → Contains attributes a → MayFollowValue form after → writes form a.value b after → HasLines (writes form a.value) b after
 
 abbrev pub AreNamed : List Attribute → Type 0
 AreNamed attributes = (a : Attribute) → Contains attributes a → is_attribute_name a.name ≡ true
 
 -- ---- tags
 
-attribute_lines : (writes : Writes) (touching : Bool) (before form : Form) (a : Attribute) (b after : List ℕ) → is_attribute_name a.name ≡ true
+attribute_lines : (writes : Writes) (touching : Bool) (before form : Quoting) (a : Attribute) (b after : List ℕ) → is_attribute_name a.name ≡ true
     → ((value : List ℕ) → writes form a.value value after → HasLines (writes form a.value) value after)
     → WritesAttribute writes touching before form a b after → HasLines (WritesAttribute writes touching before form a) b after
 attribute_lines writes touching before form a b after good values w =
@@ -92,14 +92,14 @@ attribute_lines writes touching before form a b after good values w =
       is = ap newlines cut ∙ gap.is ∙ ap (λ r. gap.other ++ (w.name ++ r)) value.is ∙ simp append_assoc refl;
     }
 
-pub attributes_lines : (writes : Writes) (touching : Bool) (before last : Form) (attributes : List Attribute) (b after : List ℕ)
-    → AreNamed attributes → ValuesHaveLines writes attributes → IsBehind last after
+pub attributes_lines : (writes : Writes) (touching : Bool) (before last : Quoting) (attributes : List Attribute) (b after : List ℕ)
+    → AreNamed attributes → ValuesHaveLines writes attributes → MayFollowValue last after
     → WritesAttributes writes touching before last attributes b after → HasLines (WritesAttributes writes touching before last attributes) b after
-attributes_lines writes touching before last [] b after named values behind w = record { other = []; written = (w.0, refl); is = rw w.1 refl }
-attributes_lines writes touching before last (a ∷ attributes) b after named values behind (form, piece, rest, is, w, ws) =
-    let next : IsBehind form (rest ++ after) = attributes_behind writes touching form last attributes rest after ws behind in
+attributes_lines writes touching before last [] b after named values follows w = record { other = []; written = (w.0, refl); is = rw w.1 refl }
+attributes_lines writes touching before last (a ∷ attributes) b after named values follows (form, piece, rest, is, w, ws) =
+    let next : MayFollowValue form (rest ++ after) = attributes_after writes touching form last attributes rest after ws follows in
     let more = attributes_lines writes touching form last attributes rest after
-    (λ d (k, low, here). named d (suc k, omega arith, here)) (λ f d c r (k, low, here) e v. values f d c r (suc k, omega arith, here) e v) behind ws in
+    (λ d (k, low, here). named d (suc k, omega arith, here)) (λ f d c r (k, low, here) e v. values f d c r (suc k, omega arith, here) e v) follows ws in
     let one = attribute_lines writes touching before form a piece (rest ++ after) (named a (0, omega arith, refl)) (λ v x. values form a v (rest ++ after) (0, omega arith, refl) next x) w in
     let cut : b ++ after ≡ piece ++ (rest ++ after) = rw is (simp append_assoc) in
     record {
@@ -119,7 +119,7 @@ pub start_lines : (writes : Writes) (touching : Bool) (name : List ℕ) (attribu
 start_lines writes touching name attributes slash b after good named values w =
     let tail : List ℕ = w.gap ++ (tag_end slash ++ after) in
     let gap = gap_lines (slash && parts_slash w.last) w.gap (tag_end slash) after w.apart (tag_end_in_line slash) in
-    let middle = attributes_lines writes touching bare w.last attributes w.middle tail named values (closing_behind w.last slash w.gap after w.apart) w.attributed in
+    let middle = attributes_lines writes touching bare w.last attributes w.middle tail named values (closing_after w.last slash w.gap after w.apart) w.attributed in
     let cut : b ++ after ≡ 60 ∷ (w.written ++ (w.middle ++ tail)) = rw w.is (simp append_assoc) in
     let plain : all_pass is_no_return w.written ≡ true = tag_name_plain name w.written w.lowered good in
     record {

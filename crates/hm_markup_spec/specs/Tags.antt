@@ -10,15 +10,15 @@ use Rattle.hm_base.specs.Walks.{Attribute}
 use Rattle.hm_markup_spec.specs.Gaps.{is_gap}
 
 -- how an attribute is written: its name alone, or with a value without quotes, in double or in single quotes
-pub data Form : Type 0 where
-  bare : Form
-  unquoted : Form
-  double : Form
-  single : Form
+pub data Quoting : Type 0 where
+  bare : Quoting
+  unquoted : Quoting
+  double : Quoting
+  single : Quoting
 
 -- how a value may be written in a form, with its '=', after the attribute's name and before what follows
 abbrev pub Writes : Type 1
-Writes = Form → List ℕ → List ℕ → List ℕ → Type 0
+Writes = Quoting → List ℕ → List ℕ → List ℕ → Type 0
 
 -- v after '=', with whitespace or none before each of them
 pub record IsAssigned (v b : List ℕ) : Type 0 where
@@ -30,21 +30,21 @@ pub record IsAssigned (v b : List ℕ) : Type 0 where
 
 -- Whether whitespace has to stand between an attribute of this form and the next one: after a quote only where attributes
 -- may not touch.
-abbrev pub parts_attributes : Bool → Form → Bool
+abbrev pub parts_attributes : Bool → Quoting → Bool
 parts_attributes touching bare = true
 parts_attributes touching unquoted = true
 parts_attributes touching double = not touching
 parts_attributes touching single = not touching
 
 -- whether whitespace has to stand between an attribute of this form and the '/' of the tag
-abbrev pub parts_slash : Form → Bool
+abbrev pub parts_slash : Quoting → Bool
 parts_slash bare = false
 parts_slash unquoted = true
 parts_slash double = false
 parts_slash single = false
 
 -- b writes an attribute in this form, after one of the form before or after the tag's name, which counts as bare
-pub record WritesAttribute (writes : Writes) (touching : Bool) (before form : Form) (a : Attribute) (b after : List ℕ) : Type 0 where
+pub record WritesAttribute (writes : Writes) (touching : Bool) (before form : Quoting) (a : Attribute) (b after : List ℕ) : Type 0 where
   pub gap : List ℕ
   pub name : List ℕ
   pub value : List ℕ
@@ -54,10 +54,10 @@ pub record WritesAttribute (writes : Writes) (touching : Bool) (before form : Fo
   pub assigned : writes form a.value value after
 
 -- b writes these attributes after one of the form before; the last one, or else what is before, has the form last
-abbrev pub WritesAttributes : Writes → Bool → Form → Form → List Attribute → List ℕ → List ℕ → Type 0
+abbrev pub WritesAttributes : Writes → Bool → Quoting → Quoting → List Attribute → List ℕ → List ℕ → Type 0
 WritesAttributes writes touching before last [] b after = (last ≡ before) × (b ≡ [])
 WritesAttributes writes touching before last (a ∷ attributes) b after =
-    (form : Form) × (piece rest : List ℕ) × (b ≡ piece ++ rest) × WritesAttribute writes touching before form a piece (rest ++ after) × WritesAttributes writes touching form last attributes rest after
+    (form : Quoting) × (piece rest : List ℕ) × (b ≡ piece ++ rest) × WritesAttribute writes touching before form a piece (rest ++ after) × WritesAttributes writes touching form last attributes rest after
 
 abbrev pub tag_end : Bool → List ℕ
 tag_end true = 47 ∷ 62 ∷ []
@@ -66,7 +66,7 @@ tag_end false = 62 ∷ []
 -- b writes a start tag
 pub record WritesStart (writes : Writes) (touching : Bool) (name : List ℕ) (attributes : List Attribute) (slash : Bool) (b after : List ℕ) : Type 0 where
   pub written : List ℕ
-  pub last : Form
+  pub last : Quoting
   pub middle : List ℕ
   pub gap : List ℕ
   pub is : b ≡ 60 ∷ (written ++ (middle ++ (gap ++ tag_end slash)))

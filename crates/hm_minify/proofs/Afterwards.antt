@@ -5,7 +5,7 @@ use Rattle.std.specs.Bool.{nat_lt}
 use Rattle.std.specs.Str.{bytes_eq}
 use Rattle.hm_base.specs.Walks.{Event}
 use Rattle.hm_base.specs.declared.limits.TheConstants.{CERTIFICATE_LIMIT, OUTPUT_LIMIT}
-use Rattle.hm_base.specs.declared.plain.Format.TheVariants.{Three}
+use Rattle.hm_base.specs.declared.plain.Format.TheVariants.{Sparse}
 use Rattle.hm_base.specs.declared.plain.TreeOptions.{TreeOptions}
 use Rattle.hm_cert.specs.Certificate.{AreRows}
 use Rattle.hm_cert.specs.Reading.{given}
@@ -104,12 +104,12 @@ own_ending t k x w page s rows short few =
     ∙ judged_ending (verdict t x.rules w (shortest_text t x.rules w)) (given (certificate_of t x.rules (format_of x.sparse) w)) (length (shortest_text t x.rules w)) yes)
 
 -- what has the bytes of what is written sparsely gets its answer
-pub written_is_checked : (t : List Entry) → IsTable t → (r : SpellRules) (w : List Event) (out cert o c : List ℕ) → r.frame ≡ false → Settled w → AreRows (certified_rows t r Three w) → o ≡ shortest_text t r w → c ≡ certificate_of t r Three w → o ≡ out → c ≡ cert
+pub written_is_checked : (t : List Entry) → IsTable t → (r : SpellRules) (w : List Event) (out cert o c : List ℕ) → r.frame ≡ false → Settled w → AreRows (certified_rows t r Sparse w) → o ≡ shortest_text t r w → c ≡ certificate_of t r Sparse w → o ≡ out → c ≡ cert
     → length out ≤ OUTPUT_LIMIT → length cert ≤ CERTIFICATE_LIMIT → checked_ending r t w out cert ≡ says status.Done (yes_line (length out))
 written_is_checked t k r w out cert o c page settled rows is lines same_out same_cert short few =
     let x : Writing = record { rules = r; sparse = true; order = false } in
     let text : shortest_text t r w ≡ out = sym is ∙ same_out in
-    let sparse : certificate_of t r Three w ≡ cert = sym lines ∙ same_cert in
+    let sparse : certificate_of t r Sparse w ≡ cert = sym lines ∙ same_cert in
     (λ i. checked_ending r t w (sym text i) (sym sparse i))
     ∙ own_ending t k x w page settled rows (subst (λ s. length s ≤ OUTPUT_LIMIT) (sym text) short) (subst (λ s. length s ≤ CERTIFICATE_LIMIT) (sym sparse) few)
     ∙ ap (λ s. says status.Done (yes_line (length s))) text

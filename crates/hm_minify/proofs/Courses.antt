@@ -34,7 +34,7 @@ no_sink r a e = let h : is_fault r ≡ true = ap is_fault e in cc
 no_store : (r : Status) → is_fault r ≡ false → r ≡ status.StoreFault → ⊥
 no_store r a e = let h : is_fault r ≡ true = ap is_fault e in cc
 
-no_memory : (r : Status) → is_fault r ≡ false → r ≡ status.Memory → ⊥
+no_memory : (r : Status) → is_fault r ≡ false → r ≡ status.OutOfMemory → ⊥
 no_memory r a e = let h : is_fault r ≡ true = ap is_fault e in cc
 
 -- a status with which the line of a store's fault goes is no answer
@@ -43,9 +43,9 @@ said_fault r b a (inl p) h = no_store r h p.0
 said_fault r b a (inr p) h = no_sink r h p.0
 
 -- nor is it lack of memory
-said_no_memory : (line : List ℕ) (said r : Status) (b a : Outside) → Puts line said r b a → (said ≡ status.Memory → ⊥) → r ≡ status.Memory → ⊥
+said_no_memory : (line : List ℕ) (said r : Status) (b a : Outside) → Puts line said r b a → (said ≡ status.OutOfMemory → ⊥) → r ≡ status.OutOfMemory → ⊥
 said_no_memory line said r b a (inl p) n e = n (sym p.0 ∙ e)
-said_no_memory line said r b a (inr p) n e = let h : status.SinkFault ≡ status.Memory = sym p.0 ∙ e in cc
+said_no_memory line said r b a (inr p) n e = let h : status.SinkFault ≡ status.OutOfMemory = sym p.0 ∙ e in cc
 
 store_is_no_sink : (r : Status) → r ≡ status.StoreFault → r ≡ status.SinkFault → ⊥
 store_is_no_sink r e h = let x : status.StoreFault ≡ status.SinkFault = sym e ∙ h in cc
@@ -53,7 +53,7 @@ store_is_no_sink r e h = let x : status.StoreFault ≡ status.SinkFault = sym e 
 fault_is_no_sink : status.StoreFault ≡ status.SinkFault → ⊥
 fault_is_no_sink e = cc
 
-fault_is_no_memory : status.StoreFault ≡ status.Memory → ⊥
+fault_is_no_memory : status.StoreFault ≡ status.OutOfMemory → ⊥
 fault_is_no_memory e = cc
 
 -- ---- files
@@ -90,7 +90,7 @@ answered e R r b a (stopped w rose p) h = absurd (said_fault r b a p h)
 answered e R r b a (unready m same sink) h = absurd (no_memory r h m)
 
 pub complete : (e : Contents → Ending) (R : Contents → Type 0) (r : Status) (b a : Outside) → Course e R r b a → (StoreFails b a → ⊥) → (SinkFails b a → ⊥)
-    → (r ≡ status.Memory) ⊎ Sees b.files (λ seen. EndsAs (e seen) r b a)
+    → (r ≡ status.OutOfMemory) ⊎ Sees b.files (λ seen. EndsAs (e seen) r b a)
 complete e R r b a (written w) still quiet =
     let p = put_quiet (e w.seen).line (e w.seen).status r b a w.holds.2 quiet in
     inr (record { seen = w.seen; are_told = w.are_told; holds = record { status = p.0; files = w.holds.1; line = p.1 } })
@@ -104,7 +104,7 @@ complete e R r b a (missing t same p) still quiet =
 complete e R r b a (stopped w rose p) still quiet = absurd (still rose)
 complete e R r b a (unready m same sink) still quiet = inl m
 
-pub whole : (e : Contents → Ending) (R : Contents → Type 0) (r : Status) (b a : Outside) → Course e R r b a → (StoreFails b a → ⊥) → (r ≡ status.Memory → ⊥) → Sees b.files (λ seen. a.files ≡ after_writes b.files (e seen).writes)
+pub whole : (e : Contents → Ending) (R : Contents → Type 0) (r : Status) (b a : Outside) → Course e R r b a → (StoreFails b a → ⊥) → (r ≡ status.OutOfMemory → ⊥) → Sees b.files (λ seen. a.files ≡ after_writes b.files (e seen).writes)
 whole e R r b a (written w) still m = record { seen = w.seen; are_told = w.are_told; holds = w.holds.1 }
 whole e R r b a (missing t same p) still m = told_seen b.files (λ seen. a.files ≡ after_writes b.files (e seen).writes) (same ∙ ap (λ (x : Ending). after_writes b.files x.writes) (sym t.holds))
 whole e R r b a (stopped w rose p) still m = absurd (still rose)
@@ -136,7 +136,7 @@ pub sink_cause : (e : Contents → Ending) (R : Contents → Type 0) (r : Status
 sink_cause e R r b a (written w) is = (put_front (e w.seen).line (e w.seen).status r b a w.holds.2 is (no_sink (e w.seen).status w.holds.0)).1
 sink_cause e R r b a (missing t same p) is = (put_front store_line status.StoreFault r b a p is fault_is_no_sink).1
 sink_cause e R r b a (stopped w rose p) is = (put_front store_line status.StoreFault r b a p is fault_is_no_sink).1
-sink_cause e R r b a (unready m same sink) is = let x : status.SinkFault ≡ status.Memory = sym is ∙ m in cc
+sink_cause e R r b a (unready m same sink) is = let x : status.SinkFault ≡ status.OutOfMemory = sym is ∙ m in cc
 
 pub sink_front : (e : Contents → Ending) (R : Contents → Type 0) (r : Status) (b a : Outside) → Course e R r b a → r ≡ status.SinkFault
     → (StoreFails b a × PrintsFront store_line b a) ⊎ Sees b.files (λ seen. PrintsFront (e seen).line b a)
@@ -144,9 +144,9 @@ sink_front e R r b a (written w) is = inr (record { seen = w.seen; are_told = w.
 sink_front e R r b a (missing t same p) is =
     inr (told_seen b.files (λ seen. PrintsFront (e seen).line b a) (subst (λ (x : Ending). PrintsFront x.line b a) (sym t.holds) (put_front store_line status.StoreFault r b a p is fault_is_no_sink).0))
 sink_front e R r b a (stopped w rose p) is = inl (rose, (put_front store_line status.StoreFault r b a p is fault_is_no_sink).0)
-sink_front e R r b a (unready m same sink) is = let x : status.SinkFault ≡ status.Memory = sym is ∙ m in cc
+sink_front e R r b a (unready m same sink) is = let x : status.SinkFault ≡ status.OutOfMemory = sym is ∙ m in cc
 
-pub memory : (e : Contents → Ending) (R : Contents → Type 0) (r : Status) (b a : Outside) → Course e R r b a → r ≡ status.Memory → (a.files ≡ b.files) × (a.printed ≡ b.printed)
+pub memory : (e : Contents → Ending) (R : Contents → Type 0) (r : Status) (b a : Outside) → Course e R r b a → r ≡ status.OutOfMemory → (a.files ≡ b.files) × (a.printed ≡ b.printed)
 memory e R r b a (written w) is = absurd (said_no_memory (e w.seen).line (e w.seen).status r b a w.holds.2 (no_memory (e w.seen).status w.holds.0) is)
 memory e R r b a (missing t same p) is = absurd (said_no_memory store_line status.StoreFault r b a p fault_is_no_memory is)
 memory e R r b a (stopped w rose p) is = absurd (said_no_memory store_line status.StoreFault r b a p fault_is_no_memory is)

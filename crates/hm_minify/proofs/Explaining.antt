@@ -9,8 +9,8 @@ use Rattle.hm_minify.specs.Endings.{Ending, IsReadable, asked_ending, is_explain
 use Rattle.hm_input.proofs.Loaded.{no_table}
 use Rattle.hm_input.specs.Explaining.{IsRefusedWith}
 use Rattle.hm_input.specs.Loads.{NoInput, NoTable}
-use Rattle.hm_input.specs.declared.unread.Unread.{Unread}
-use Rattle.hm_input.specs.declared.unread.Unread.TheVariants as reasons
+use Rattle.hm_input.specs.declared.unread.InputFault.{InputFault}
+use Rattle.hm_input.specs.declared.unread.InputFault.TheVariants as reasons
 use Rattle.hm_location.specs.Explanations.{explained, explained_page}
 use Rattle.hm_input.specs.Inputs.{Input, IsInput, bad_json, bad_page, bad_table, missing, origin_input}
 use Rattle.hm_minify.specs.Wanted.{input_of, wanted}
@@ -53,24 +53,24 @@ plain_refusal : (origin : Origin) (work : Work) (seen : Contents) (rule : Rule) 
 plain_refusal origin work seen rule at plain = rw plain refl
 
 -- why there is no tree is said, where no page is explained
-pub without_tree_seen : (told : Option FileMap) (q : Asked) (unread : Unread) (ended : Ending) → is_explained q.origin q.work ≡ false → NoInput told q.origin q.options unread → IsSaidWithout unread ended
+pub without_tree_seen : (told : Option FileMap) (q : Asked) (unread : InputFault) (ended : Ending) → is_explained q.origin q.work ≡ false → NoInput told q.origin q.options unread → IsSaidWithout unread ended
     → Sees told (λ seen. (ended ≡ asked_ending q seen) × IsReadable q (input_of q seen))
 without_tree_seen told q (reasons.Table fault) ended plain why said = no_tree_seen told q (bad_table fault) ended why refl tt (λ seen. said)
 without_tree_seen told q (reasons.Page rule at) ended plain why said =
     no_tree_seen told q (bad_page rule at) ended why refl tt (λ seen. said ∙ ap (says status.PageRefused) (plain_refusal q.origin q.work seen rule at plain))
 without_tree_seen told q (reasons.Json fault) ended plain why said = no_tree_seen told q (bad_json fault) ended why refl tt (λ seen. said)
 without_tree_seen told q reasons.Store ended plain why said = absurd said
-without_tree_seen told q reasons.Memory ended plain why said = absurd said
+without_tree_seen told q reasons.OutOfMemory ended plain why said = absurd said
 
 -- so it is where a page is explained, which then has no table
-pub without_table_seen : (told : Option FileMap) (q : Asked) (table page : List ℕ) (unread : Unread) (ended : Ending) → q.origin ≡ page_at table page → are_apart table page ≡ true → NoTable told table unread → IsSaidWithout unread ended
+pub without_table_seen : (told : Option FileMap) (q : Asked) (table page : List ℕ) (unread : InputFault) (ended : Ending) → q.origin ≡ page_at table page → are_apart table page ≡ true → NoTable told table unread → IsSaidWithout unread ended
     → Sees told (λ seen. (ended ≡ asked_ending q seen) × IsReadable q (input_of q seen))
 without_table_seen told q table page (reasons.Table fault) ended origin apart why said =
     no_tree_seen told q (bad_table fault) ended (subst (λ o. IsInput told o q.options (bad_table fault)) (sym origin) (no_table told table page q.options (reasons.Table fault) apart why)) refl tt (λ seen. said)
 without_table_seen told q table page (reasons.Page rule at) ended origin apart why said = absurd why
 without_table_seen told q table page (reasons.Json fault) ended origin apart why said = absurd why
 without_table_seen told q table page reasons.Store ended origin apart why said = absurd said
-without_table_seen told q table page reasons.Memory ended origin apart why said = absurd said
+without_table_seen told q table page reasons.OutOfMemory ended origin apart why said = absurd said
 
 pub missing_told : (told : Option FileMap) (q : Asked) (table page : List ℕ) → q.origin ≡ page_at table page → Tells told (λ seen. origin_input (page_at table page) q.options seen ≡ missing) → Tells told (λ seen. asked_ending q seen ≡ store_fault)
 missing_told told q table page origin t = record {

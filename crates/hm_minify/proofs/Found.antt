@@ -197,7 +197,7 @@ found_answers status.PageRefused e = cc
 found_answers status.TableRefused e = cc
 found_answers status.StoreFault e = cc
 found_answers status.SinkFault e = cc
-found_answers status.Memory e = cc
+found_answers status.OutOfMemory e = cc
 found_answers status.JsonRefused e = cc
 
 pub checked_answers : (r : SpellRules) (t : List Entry) (w : List Event) (out cert : List ℕ) (ended : Ending) → ended ≡ checked_ending r t w out cert → is_fault ended.status ≡ false

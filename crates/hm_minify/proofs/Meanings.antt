@@ -71,11 +71,11 @@ usage_unasked words r b a w is =
     let none = unasked (notice_in words) (asked words) w.seen (sym w.holds.status ∙ is) in
     (none.0, none.1, w.holds.line ∙ ap (λ (x : Ending). append_known b.printed x.line) (ending_of_none words w.seen none.0 none.1))
 
-usage_or_sink : (line : List ℕ) (r : Status) (b a : Outside) → Puts line status.Usage r b a → (r ≡ status.Usage) ⊎ ((r ≡ status.SinkFault) ⊎ (r ≡ status.Memory))
+usage_or_sink : (line : List ℕ) (r : Status) (b a : Outside) → Puts line status.Usage r b a → (r ≡ status.Usage) ⊎ ((r ≡ status.SinkFault) ⊎ (r ≡ status.OutOfMemory))
 usage_or_sink line r b a (inl p) = inl p.0
 usage_or_sink line r b a (inr p) = inr (inl p.0)
 
-pub usage_or_fault : (line : List ℕ) (r : Status) (b a : Outside) → Puts line status.Usage r b a ⊎ (r ≡ status.Memory) → (r ≡ status.Usage) ⊎ ((r ≡ status.SinkFault) ⊎ (r ≡ status.Memory))
+pub usage_or_fault : (line : List ℕ) (r : Status) (b a : Outside) → Puts line status.Usage r b a ⊎ (r ≡ status.OutOfMemory) → (r ≡ status.Usage) ⊎ ((r ≡ status.SinkFault) ⊎ (r ≡ status.OutOfMemory))
 usage_or_fault line r b a (inl p) = usage_or_sink line r b a p
 usage_or_fault line r b a (inr m) = inr (inr m)
 

@@ -9,7 +9,7 @@ use Rattle.hm_cert.specs.Certificate.{AreRows}
 use Rattle.hm_cert.specs.Reading.{given}
 use Rattle.hm_cert.specs.declared.certificate.Certificate.{Certificate}
 use Rattle.hm_base.specs.declared.plain.Format.{Format}
-use Rattle.hm_base.specs.declared.plain.Format.TheVariants.{Two, Three}
+use Rattle.hm_base.specs.declared.plain.Format.TheVariants.{Compact, Sparse}
 use Rattle.hm_check.specs.Verdicts.{verdict}
 use Rattle.hm_check.specs.declared.verdicts.Verdict.{Verdict}
 use Rattle.hm_check.specs.declared.verdicts.Verdict.TheVariants.{Yes, No}
@@ -53,7 +53,7 @@ store_fault = says status.StoreFault store_line
 abbrev pub is_fault : Status → Bool
 is_fault status.StoreFault = true
 is_fault status.SinkFault = true
-is_fault status.Memory = true
+is_fault status.OutOfMemory = true
 is_fault answer = false
 
 -- ---- What an input gives
@@ -100,8 +100,8 @@ refusal origin work seen rule at = if is_explained origin work then explained_pa
 
 -- the format of a certificate that is written
 abbrev pub format_of : Bool → Format
-format_of false = Two
-format_of true = Three
+format_of false = Compact
+format_of true = Sparse
 
 -- what of a text is written: all of it, or what stands after the front of a fragment
 abbrev pub written_part : Bool → List ℕ → List ℕ

@@ -30,7 +30,7 @@ json_line json_faults.NotArray = codes "json refused: NotArray" ++ 10 ∷ []
 json_line (json_faults.BadEvent event) = codes "json refused: BadEvent event " ++ decimal event ++ 10 ∷ []
 json_line (json_faults.Open count) = codes "json refused: Open open " ++ decimal count ++ 10 ∷ []
 json_line (json_faults.NotSettled event point) = codes "json refused: NotSettled event " ++ decimal event ++ codes " point " ++ decimal point ++ 10 ∷ []
-json_line json_faults.Memory = codes "json refused: Memory" ++ 10 ∷ []
+json_line json_faults.OutOfMemory = codes "json refused: Memory" ++ 10 ∷ []
 
 -- a key or a number after the name of a fault
 abbrev pub fault_about : TableFault → List ℕ

@@ -64,7 +64,7 @@ pub data Course (e : Contents → Ending) (R : Contents → Type 0) (ended : Sta
   -- a call on the store has failed
   stopped : Sees before.files (λ seen. IsLeft before.files (e seen).writes after.files) → StoreFails before after → Puts store_line status.StoreFault ended before after → Course e R ended before after
   -- memory was refused
-  unready : ended ≡ status.Memory → after.files ≡ before.files → after.printed ≡ before.printed → Course e R ended before after
+  unready : ended ≡ status.OutOfMemory → after.files ≡ before.files → after.printed ≡ before.printed → Course e R ended before after
 
 -- ---- By what is done. `seen` are contents that the files can have; where the files are known, their contents.
 

@@ -1,10 +1,10 @@
 -- What is put to the sink.
 use Rattle.std.specs.Prelude.{ℕ, List, string_bytes}
-use Rattle.hm_minify.specs.declared.ended.Said.{Said}
-use Rattle.hm_minify.specs.declared.ended.Said.TheVariants.{Line, Lines, Tree, Json}
+use Rattle.hm_minify.specs.declared.ended.Printed.{Printed}
+use Rattle.hm_minify.specs.declared.ended.Printed.TheVariants.{Line, Lines, Tree, Json}
 
 -- its bytes
-abbrev pub bytes_said : Said → List ℕ
+abbrev pub bytes_said : Printed → List ℕ
 bytes_said (Line line) = string_bytes line
 bytes_said (Lines lines) = lines.items
 bytes_said (Tree lines) = lines

@@ -14,20 +14,20 @@ ghost use Rattle.hm_minify.specs.Endings as spec;
 ghost use Rattle.hm_minify.specs.Lines as lines;
 
 use crate::Status;
-use crate::ended::{Ended, Stop, says};
+use crate::ended::{RunEnd, Stop, says};
 use crate::lines::{bad_line_line, too_long_line, why_line, yes_line};
-use hm_base::{CERTIFICATE_LIMIT, Format, Memory, OUTPUT_LIMIT, Refused, Rule, SpellRules};
+use hm_base::{CERTIFICATE_LIMIT, Format, OUTPUT_LIMIT, OutOfMemory, Refused, Rule, SpellRules};
 use hm_cert::{Certificate, CertificateFault, put_head};
 use hm_check::{Verdict, Why, check_settled};
 use hm_input::{Input, front, read_fragment};
 use hm_order::minify_tree;
 use hm_refs::Table;
 use hm_refs::laws::every_table;
-use hm_store::{Store, load, load_behind, load_over};
+use hm_store::{Store, load, load_over, load_with_prefix};
 use std::alloc::Global;
 
 /// What was found is said.
-fn say<'w>(alloc: Global, found: Verdict) -> Result<Ended<'w>, Stop>
+fn say<'w>(alloc: Global, found: Verdict) -> Result<RunEnd<'w>, Stop>
     ensures ended { IfOk result (λ ended. ended ≡ spec.verdict_ending found) }
     ensures memory { result ≢ Err Stop.Store }
 {
@@ -44,7 +44,7 @@ fn find<'w>(
     rules: SpellRules,
     out: &[u8],
     certificate: &Certificate,
-) -> Result<Ended<'w>, Stop>
+) -> Result<RunEnd<'w>, Stop>
     requires rows { AreRows certificate.now.prices }
     requires settled { Settled input.now.tree }
     ensures ended { IfOk result (λ ended. ended ≡ spec.found_ending false rules input.now.table.entries input.now.tree out.now certificate.now) }
@@ -59,7 +59,7 @@ fn find<'w>(
 /// Whether a certificate begins as a sparse one by these rules does.
 fn begins_sparse(alloc: Global, rules: SpellRules, cert: &[u8]) -> bool {
     let mut head = Vec::new(alloc);
-    put_head(&mut head, Format::Three, rules).is_ok() && cert.starts_with(head.as_slice())
+    put_head(&mut head, Format::Sparse, rules).is_ok() && cert.starts_with(head.as_slice())
 }
 
 /// Whether the bytes are the same.
@@ -81,13 +81,13 @@ fn rewritten(alloc: Global, input: &Input, rules: SpellRules, cert: &[u8]) -> (V
     if cert.len() > CERTIFICATE_LIMIT as usize || !begins_sparse(alloc, rules, cert) {
         return (Vec::new(alloc), false);
     }
-    match minify_tree(alloc, &input.tree, &input.table, rules, Format::Three) {
+    match minify_tree(alloc, &input.tree, &input.table, rules, Format::Sparse) {
         Ok(minified) => {
             let is_within = minified.out.len() <= OUTPUT_LIMIT as usize;
             let is_same = same_bytes(minified.certificate.as_slice(), cert);
             (minified.out, is_within & is_same)
         }
-        Err(Memory) => (Vec::new(alloc), false),
+        Err(OutOfMemory) => (Vec::new(alloc), false),
     }
 }
 
@@ -99,7 +99,7 @@ fn check_bytes<'w>(
     out: &[u8],
     cert: &[u8],
     is_known: bool,
-) -> Result<Ended<'w>, Stop>
+) -> Result<RunEnd<'w>, Stop>
     requires page { rules.frame ≡ false }
     requires settled { Settled input.now.tree }
     requires known { IsTrue is_known → spec.checked_ending rules input.now.table.entries input.now.tree out.now cert.now ≡ spec.says Status.Done (lines.yes_line (prelude.length out.now)) }
@@ -115,7 +115,7 @@ fn check_bytes<'w>(
         Err(CertificateFault::BadLine { line }) => {
             Ok(says(alloc, Status::No, bad_line_line(alloc, line)?))
         }
-        Err(CertificateFault::Memory) => Err(Stop::Memory),
+        Err(CertificateFault::OutOfMemory) => Err(Stop::OutOfMemory),
     }
 }
 
@@ -128,7 +128,7 @@ fn check_page<'w, S: Store>(
     rules: SpellRules,
     out: &str,
     cert: &str,
-) -> Result<Ended<'w>, Stop>
+) -> Result<RunEnd<'w>, Stop>
     requires page { rules.frame ≡ false }
     requires apart { bytes_eq out.now cert.now ≡ false }
     requires settled { Settled input.now.tree }
@@ -180,7 +180,7 @@ fn rules_differ(found: &Verdict) -> bool
 }
 
 /// A fragment that is refused is told.
-fn say_refused<'w>(alloc: Global, rule: Rule, at: u32) -> Result<Ended<'w>, Stop>
+fn say_refused<'w>(alloc: Global, rule: Rule, at: u32) -> Result<RunEnd<'w>, Stop>
     ensures ended { IfOk result (λ ended. ended ≡ spec.says Status.No (lines.why_line (Why.OutRefused rule at))) }
     ensures memory { result ≢ Err Stop.Store }
 {
@@ -193,13 +193,13 @@ fn say_refused<'w>(alloc: Global, rule: Rule, at: u32) -> Result<Ended<'w>, Stop
 }
 
 /// That a fragment is refused is said, whatever was found of it.
-fn say_no_fragment<'w>(alloc: Global, refused: Refused) -> Result<Ended<'w>, Stop>
+fn say_no_fragment<'w>(alloc: Global, refused: Refused) -> Result<RunEnd<'w>, Stop>
     ensures ended { IfOk result (λ ended. (found : Verdict) (o : Outcome) → IsRefusedAs o refused → ended ≡ spec.fragment_ending found o) }
     ensures memory { result ≢ Err Stop.Store }
 {
     match refused {
         Refused::Page { rule, at } => say_refused(alloc, rule, at),
-        Refused::Memory => Err(Stop::Memory),
+        Refused::OutOfMemory => Err(Stop::OutOfMemory),
     }
 }
 
@@ -209,7 +209,7 @@ fn say_fragment<'w>(
     found: Verdict,
     page: Vec<u8>,
     table: &Table,
-) -> Result<Ended<'w>, Stop>
+) -> Result<RunEnd<'w>, Stop>
     requires front { StartsWith page.items frames.front }
     ensures ended { IfOk result (λ ended. ended ≡ spec.fragment_ending found (spec.out_fragment table.now.entries (unframed page.items))) }
     ensures memory { result ≢ Err Stop.Store }
@@ -238,7 +238,7 @@ fn find_fragment<'w>(
     rules: SpellRules,
     page: Vec<u8>,
     certificate: &Certificate,
-) -> Result<Ended<'w>, Stop>
+) -> Result<RunEnd<'w>, Stop>
     requires rows { AreRows certificate.now.prices }
     requires settled { Settled input.now.tree }
     requires front { StartsWith page.items frames.front }
@@ -267,7 +267,7 @@ fn check_fragment_bytes<'w>(
     rules: SpellRules,
     page: Vec<u8>,
     cert: &[u8],
-) -> Result<Ended<'w>, Stop>
+) -> Result<RunEnd<'w>, Stop>
     requires fragment { rules.frame ≡ true }
     requires settled { Settled input.now.tree }
     requires front { StartsWith page.items frames.front }
@@ -280,7 +280,7 @@ fn check_fragment_bytes<'w>(
         Err(CertificateFault::BadLine { line }) => {
             Ok(says(alloc, Status::No, bad_line_line(alloc, line)?))
         }
-        Err(CertificateFault::Memory) => Err(Stop::Memory),
+        Err(CertificateFault::OutOfMemory) => Err(Stop::OutOfMemory),
     }
 }
 
@@ -292,7 +292,7 @@ fn check_fragment<'w, S: Store>(
     rules: SpellRules,
     out: &str,
     cert: &str,
-) -> Result<Ended<'w>, Stop>
+) -> Result<RunEnd<'w>, Stop>
     requires fragment { rules.frame ≡ true }
     requires apart { bytes_eq out.now cert.now ≡ false }
     requires settled { Settled input.now.tree }
@@ -305,7 +305,7 @@ fn check_fragment<'w, S: Store>(
         ⊎ Tells (S.files store.old) (λ seen. spec.check_ending rules input.now.table.entries input.now.tree (seen out.now) (seen cert.now) ≡ spec.store_fault) }
 {
     let lines = load(alloc, store, cert, CERTIFICATE_LIMIT)?;
-    let page = load_behind(alloc, store, out, front(), fragment_limit())?;
+    let page = load_with_prefix(alloc, store, out, front(), fragment_limit())?;
     check_fragment_bytes(alloc, input, rules, page, lines.as_slice())
 }
 
@@ -317,7 +317,7 @@ pub fn check_files<'w, S: Store>(
     rules: SpellRules,
     out: &str,
     cert: &str,
-) -> Result<Ended<'w>, Stop>
+) -> Result<RunEnd<'w>, Stop>
     requires apart { bytes_eq out.now cert.now ≡ false }
     requires settled { Settled input.now.tree }
     ensures ended { IfOk result (λ ended. Sees (S.files store.old) (λ seen. ended ≡ spec.check_ending rules input.now.table.entries input.now.tree (seen out.now) (seen cert.now))) }

@@ -7,7 +7,7 @@ ghost use Rattle.hm_minify.specs.Endings as spec;
 ghost use Rattle.hm_minify.specs.Sayings.{bytes_said};
 
 use crate::Status;
-use hm_base::Memory;
+use hm_base::OutOfMemory;
 use hm_dump::Shown;
 use hm_json_tree::JsonShown;
 use hm_store::{Failed, LoadFault, Sink};
@@ -41,14 +41,14 @@ impl<'w> Model for Output<'w> {
 /// What is put to the sink: a line, or lines that hold any bytes, or the lines of a tree or its JSON, which never stand in memory
 /// together.
 #[derive(Drop)]
-pub enum Said {
+pub enum Printed {
     Line { line: String },
     Lines { lines: Vec<u8> },
     Tree { shown: Shown },
     Json { shown: JsonShown },
 }
 
-impl Said {
+impl Printed {
     /// Puts it.
     pub fn put<O: Sink>(self, out: &mut O) -> Result<(), Failed>
         ensures ok { OnOk result (O.contents out.new ≡ append_known (O.contents out.old) (bytes_said self)) }
@@ -56,23 +56,23 @@ impl Said {
         ensures cause { HasCause (O.faults out.old) (O.faults out.new) result }
     {
         match self {
-            Said::Line { line } => out.put(line.as_bytes()),
-            Said::Lines { lines } => out.put(lines.as_slice()),
-            Said::Tree { shown } => shown.put(out),
-            Said::Json { shown } => shown.put(out),
+            Printed::Line { line } => out.put(line.as_bytes()),
+            Printed::Lines { lines } => out.put(lines.as_slice()),
+            Printed::Tree { shown } => shown.put(out),
+            Printed::Json { shown } => shown.put(out),
         }
     }
 }
 
 /// How a run ends: its status, the line that says so, and the files that are to be written before, in their order.
 #[derive(Drop)]
-pub struct Ended<'w> {
+pub struct RunEnd<'w> {
     pub status: Status,
-    pub said: Said,
+    pub said: Printed,
     pub outputs: Vec<Output<'w>>,
 }
 
-impl<'w> Model for Ended<'w> {
+impl<'w> Model for RunEnd<'w> {
     ghost use Rattle.hm_minify.specs.Endings.{Ending};
     ghost use Rattle.hm_minify.specs.Sayings.{bytes_said};
 
@@ -86,45 +86,45 @@ impl<'w> Model for Ended<'w> {
 }
 
 /// A line is put, and nothing is written.
-pub fn says<'w>(alloc: Global, status: Status, line: String) -> Ended<'w>
+pub fn says<'w>(alloc: Global, status: Status, line: String) -> RunEnd<'w>
     ensures { result ≡ spec.says status (string_bytes line) }
 {
-    Ended {
+    RunEnd {
         status,
-        said: Said::Line { line },
+        said: Printed::Line { line },
         outputs: Vec::new(alloc),
     }
 }
 
 /// Lines that hold any bytes are put, and nothing is written.
-pub fn says_lines<'w>(alloc: Global, status: Status, lines: Vec<u8>) -> Ended<'w>
+pub fn says_lines<'w>(alloc: Global, status: Status, lines: Vec<u8>) -> RunEnd<'w>
     ensures { result ≡ spec.says status lines.items }
 {
-    Ended {
+    RunEnd {
         status,
-        said: Said::Lines { lines },
+        said: Printed::Lines { lines },
         outputs: Vec::new(alloc),
     }
 }
 
 /// The lines of a tree are put, and nothing is written.
-pub fn shows<'w>(alloc: Global, status: Status, shown: Shown) -> Ended<'w>
+pub fn shows<'w>(alloc: Global, status: Status, shown: Shown) -> RunEnd<'w>
     ensures { result ≡ spec.says status shown }
 {
-    Ended {
+    RunEnd {
         status,
-        said: Said::Tree { shown },
+        said: Printed::Tree { shown },
         outputs: Vec::new(alloc),
     }
 }
 
 /// The JSON of a tree is put, and nothing is written.
-pub fn tells_json<'w>(alloc: Global, status: Status, shown: JsonShown) -> Ended<'w>
+pub fn tells_json<'w>(alloc: Global, status: Status, shown: JsonShown) -> RunEnd<'w>
     ensures { result ≡ spec.says status shown }
 {
-    Ended {
+    RunEnd {
         status,
-        said: Said::Json { shown },
+        said: Printed::Json { shown },
         outputs: Vec::new(alloc),
     }
 }
@@ -135,39 +135,39 @@ pub enum Stop {
     /// A call on the store has failed, or a file isn't there.
     Store,
     /// Memory was refused.
-    Memory,
+    OutOfMemory,
 }
 
 impl From<AllocError> for Stop {
     ghost use Rattle.hm_minify.specs.declared.ended.Stop.{Stop};
-    ghost use Rattle.hm_minify.specs.declared.ended.Stop.TheVariants.{Memory};
+    ghost use Rattle.hm_minify.specs.declared.ended.Stop.TheVariants.{OutOfMemory};
 
-    ghost from_gives = { λ _ stop. stop ≡ Memory };
+    ghost from_gives = { λ _ stop. stop ≡ OutOfMemory };
 
     fn from(_error: AllocError) -> Self {
-        Stop::Memory
+        Stop::OutOfMemory
     }
 }
 
 impl<T: Drop> From<AllocFailed<T>> for Stop {
     ghost use Rattle.hm_minify.specs.declared.ended.Stop.{Stop};
-    ghost use Rattle.hm_minify.specs.declared.ended.Stop.TheVariants.{Memory};
+    ghost use Rattle.hm_minify.specs.declared.ended.Stop.TheVariants.{OutOfMemory};
 
-    ghost from_gives = { λ _ stop. stop ≡ Memory };
+    ghost from_gives = { λ _ stop. stop ≡ OutOfMemory };
 
     fn from(_error: AllocFailed<T>) -> Self {
-        Stop::Memory
+        Stop::OutOfMemory
     }
 }
 
-impl From<Memory> for Stop {
+impl From<OutOfMemory> for Stop {
     ghost use Rattle.hm_minify.specs.declared.ended.Stop.{Stop};
-    ghost use Rattle.hm_minify.specs.declared.ended.Stop.TheVariants.{Memory};
+    ghost use Rattle.hm_minify.specs.declared.ended.Stop.TheVariants.{OutOfMemory};
 
-    ghost from_gives = { λ _ stop. stop ≡ Memory };
+    ghost from_gives = { λ _ stop. stop ≡ OutOfMemory };
 
-    fn from(_error: Memory) -> Self {
-        Stop::Memory
+    fn from(_error: OutOfMemory) -> Self {
+        Stop::OutOfMemory
     }
 }
 
@@ -180,7 +180,7 @@ impl From<LoadFault> for Stop {
     fn from(fault: LoadFault) -> Self {
         match fault {
             LoadFault::Store => Stop::Store,
-            LoadFault::Memory => Stop::Memory,
+            LoadFault::OutOfMemory => Stop::OutOfMemory,
         }
     }
 }

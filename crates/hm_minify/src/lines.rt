@@ -45,7 +45,7 @@ pub fn json_line(alloc: Global, fault: JsonFault) -> Result<String, AllocError>
         JsonFault::NotSettled { event, point } => {
             format!(in alloc; "json refused: NotSettled event {event} point {point}\n")
         }
-        JsonFault::Memory => String::from_str(alloc, "json refused: Memory\n"),
+        JsonFault::OutOfMemory => String::from_str(alloc, "json refused: Memory\n"),
     }
 }
 

@@ -7,7 +7,7 @@ ghost use Rattle.hm_order.specs.Shortest.{certified_rows};
 ghost use Rattle.hm_minify.specs.Endings as spec;
 
 use crate::Status;
-use crate::ended::{Ended, Stop, says};
+use crate::ended::{RunEnd, Stop, says};
 use crate::lines::measured_line;
 use crate::work::format_of;
 use hm_base::OUTPUT_LIMIT;
@@ -34,12 +34,14 @@ fn check_minified(
 {
     every_table(&input.table);
     if minified.out.len() > OUTPUT_LIMIT as usize {
-        return Err(Stop::Memory);
+        return Err(Stop::OutOfMemory);
     }
     let certificate = match Certificate::read(alloc, minified.certificate.as_slice()) {
         Ok(certificate) => certificate,
         Err(CertificateFault::BadLine { line: _ }) => unreachable!(),
-        Err(CertificateFault::TooLong | CertificateFault::Memory) => return Err(Stop::Memory),
+        Err(CertificateFault::TooLong | CertificateFault::OutOfMemory) => return Err(
+            Stop::OutOfMemory,
+        ),
     };
     match check(
         alloc,
@@ -55,7 +57,7 @@ fn check_minified(
 }
 
 /// Writes the tree of an input shortest, and checks that. No file is written.
-pub fn measure<'w>(alloc: Global, input: &Input, writing: Writing) -> Result<Ended<'w>, Stop>
+pub fn measure<'w>(alloc: Global, input: &Input, writing: Writing) -> Result<RunEnd<'w>, Stop>
     requires settled { Settled input.now.tree }
     ensures ended { IfOk result (λ ended. ended ≡ spec.measured_ending input.now.bytes writing input.now.table.entries input.now.tree) }
     ensures readable { IfOk result (λ _. AreRows (certified_rows input.now.table.entries writing.rules (spec.format_of writing.sparse) input.now.tree)) }

@@ -20,7 +20,7 @@ pub enum Status {
     /// A call on the sink has failed.
     SinkFault,
     /// Memory was refused.
-    Memory,
+    OutOfMemory,
     /// The JSON of a tree is refused.
     JsonRefused,
 }
@@ -38,7 +38,7 @@ impl Status {
             Status::TableRefused => 4,
             Status::StoreFault => 5,
             Status::SinkFault => 6,
-            Status::Memory => 7,
+            Status::OutOfMemory => 7,
             Status::JsonRefused => 8,
         }
     }

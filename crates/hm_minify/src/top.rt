@@ -14,12 +14,12 @@ ghost use Rattle.hm_minify.specs.Sayings.{bytes_said};
 ghost use Rattle.hm_minify.specs.Writes.{after_writes, IsLeft};
 
 use crate::Status;
-use crate::ended::{Ended, Said, Stop};
+use crate::ended::{Printed, RunEnd, Stop};
 use crate::lines::{STORE_FAULT, USAGE};
 use crate::notices::notice_text;
 use crate::saved::save;
 use crate::work::work;
-use hm_base::Word;
+use hm_base::OwnedText;
 use hm_store::{Failed, Sink, Store};
 use hm_words::{Asked, Notice, WordsFault, notice_in};
 use std::alloc::Global;
@@ -35,7 +35,7 @@ fn put_line<O: Sink>(out: &mut O, line: &[u8], status: Status) -> Status
 }
 
 /// Puts what a run says: its answer, or that the sink has failed.
-fn put_said<O: Sink>(out: &mut O, said: Said, answer: Status) -> Status
+fn put_said<O: Sink>(out: &mut O, said: Printed, answer: Status) -> Status
     ensures { spec.PutsBytes (O.faults out.old) (O.faults out.new) (O.contents out.old) (O.contents out.new) (bytes_said said) answer result }
 {
     match said.put(out) {
@@ -45,7 +45,7 @@ fn put_said<O: Sink>(out: &mut O, said: Said, answer: Status) -> Status
 }
 
 /// Writes the files, and then puts what is said.
-fn finish<S: Store, O: Sink>(store: &mut S, out: &mut O, ended: Ended<'_>) -> Status
+fn finish<S: Store, O: Sink>(store: &mut S, out: &mut O, ended: RunEnd<'_>) -> Status
     ensures { Between S.Store O.Sink store.old out.old store.new out.new (spec.Finishes ended.entry result) }
 {
     match save(store, ended.outputs.as_slice()) {
@@ -57,35 +57,40 @@ fn finish<S: Store, O: Sink>(store: &mut S, out: &mut O, ended: Ended<'_>) -> St
 /// Does what a request asks for, step by step.
 fn perform_asked<S: Store, O: Sink>(
     alloc: Global,
-    words: &[Word],
+    words: &[OwnedText],
     store: &mut S,
     out: &mut O,
 ) -> Status
     requires silent { notice_by words.now ≡ None }
     ensures unasked { asked_by words.now ≡ None → (store.new ≡ store.old)
-        × (Between S.Store O.Sink store.old out.old store.new out.new (spec.Puts usage_line Status.Usage result) ⊎ (result ≡ Status.Memory)) }
+        × (Between S.Store O.Sink store.old out.old store.new out.new (spec.Puts usage_line Status.Usage result) ⊎ (result ≡ Status.OutOfMemory)) }
     ensures course { Between S.Store O.Sink store.old out.old store.new out.new (spec.Course (ending words.now) (endings.IsReadableAsked (asked_by words.now)) result) }
-    ensures writing { result ≡ Status.Memory → S.is_writing store.new ≡ S.is_writing store.old }
+    ensures writing { result ≡ Status.OutOfMemory → S.is_writing store.new ≡ S.is_writing store.old }
 {
     match Asked::read(alloc, words) {
         Err(WordsFault::Usage) => put_line(out, USAGE, Status::Usage),
-        Err(WordsFault::Memory) => Status::Memory,
+        Err(WordsFault::OutOfMemory) => Status::OutOfMemory,
         Ok(asked) => match work(alloc, &asked, store) {
             Ok(ended) => finish(store, out, ended),
             Err(Stop::Store) => put_line(out, STORE_FAULT, Status::StoreFault),
-            Err(Stop::Memory) => Status::Memory,
+            Err(Stop::OutOfMemory) => Status::OutOfMemory,
         },
     }
 }
 
 /// Does what the words ask for, step by step. A notice asks nothing of the store, and no memory.
-fn perform<S: Store, O: Sink>(alloc: Global, words: &[Word], store: &mut S, out: &mut O) -> Status
+fn perform<S: Store, O: Sink>(
+    alloc: Global,
+    words: &[OwnedText],
+    store: &mut S,
+    out: &mut O,
+) -> Status
     ensures noticed { (notice : Notice) → notice_by words.now ≡ Some notice → (store.new ≡ store.old)
         × Between S.Store O.Sink store.old out.old store.new out.new (spec.Puts (notice_text notice) Status.Done result) }
     ensures unasked { asked_by words.now ≡ None → notice_by words.now ≡ None → (store.new ≡ store.old)
-        × (Between S.Store O.Sink store.old out.old store.new out.new (spec.Puts usage_line Status.Usage result) ⊎ (result ≡ Status.Memory)) }
+        × (Between S.Store O.Sink store.old out.old store.new out.new (spec.Puts usage_line Status.Usage result) ⊎ (result ≡ Status.OutOfMemory)) }
     ensures course { Between S.Store O.Sink store.old out.old store.new out.new (spec.Course (ending words.now) (endings.IsReadableAsked (asked_by words.now)) result) }
-    ensures writing { result ≡ Status.Memory → S.is_writing store.new ≡ S.is_writing store.old }
+    ensures writing { result ≡ Status.OutOfMemory → S.is_writing store.new ≡ S.is_writing store.old }
 {
     match notice_in(words) {
         Some(notice) => put_line(out, notice_text(notice), Status::Done),
@@ -94,24 +99,29 @@ fn perform<S: Store, O: Sink>(alloc: Global, words: &[Word], store: &mut S, out:
 }
 
 /// Does what the words ask for, and puts one line to the sink, or the lines of a tree, its JSON, or those of a notice or an explanation.
-pub fn run<S: Store, O: Sink>(alloc: Global, words: &[Word], store: &mut S, out: &mut O) -> Status
+pub fn run<S: Store, O: Sink>(
+    alloc: Global,
+    words: &[OwnedText],
+    store: &mut S,
+    out: &mut O,
+) -> Status
     // What the program says of itself asks nothing of the store, and no memory.
     ensures notice { (notice : Notice) → notice_by words.now ≡ Some notice → (store.new ≡ store.old) × ((result ≡ Status.Done) ⊎ (result ≡ Status.SinkFault))
         × (result ≡ Status.Done → Between S.Store O.Sink store.old out.old store.new out.new (Prints (notice_text notice))) }
 
     // The words alone decide whether they have a meaning. Without one, nothing is asked of the store; memory may be refused first.
     ensures usage { result ≡ Status.Usage → (asked_by words.now ≡ None) × (notice_by words.now ≡ None) × (store.new ≡ store.old) × Between S.Store O.Sink store.old out.old store.new out.new (Prints usage_line) }
-    ensures no_meaning { asked_by words.now ≡ None → notice_by words.now ≡ None → (store.new ≡ store.old) × ((result ≡ Status.Usage) ⊎ ((result ≡ Status.SinkFault) ⊎ (result ≡ Status.Memory))) }
+    ensures no_meaning { asked_by words.now ≡ None → notice_by words.now ≡ None → (store.new ≡ store.old) × ((result ≡ Status.Usage) ⊎ ((result ≡ Status.SinkFault) ⊎ (result ≡ Status.OutOfMemory))) }
 
     // An answer is the ending that words and files give. Where no call has failed, there is nothing else but lack of memory.
     ensures answer { is_fault result ≡ false → Between S.Store O.Sink store.old out.old store.new out.new (spec.Ends words.now result) }
     ensures complete { Between S.Store O.Sink store.old out.old store.new out.new (λ before after.
-        (StoreFails before after → ⊥) → (SinkFails before after → ⊥) → (result ≡ Status.Memory) ⊎ spec.Ends words.now result before after) }
+        (StoreFails before after → ⊥) → (SinkFails before after → ⊥) → (result ≡ Status.OutOfMemory) ⊎ spec.Ends words.now result before after) }
 
     // Where no call on the store has failed, all files of the ending are written. Always a prefix of them is, each
     // earlier one whole, and no other file is ever changed.
     ensures whole { Between S.Store O.Sink store.old out.old store.new out.new (λ before after.
-        (StoreFails before after → ⊥) → result ≢ Status.Memory
+        (StoreFails before after → ⊥) → result ≢ Status.OutOfMemory
         → Sees before.files (λ seen. after.files ≡ after_writes before.files (ending words.now seen).writes)) }
     ensures left { Between S.Store O.Sink store.old out.old store.new out.new (λ before after.
         Sees before.files (λ seen. IsLeft before.files (ending words.now seen).writes after.files)) }
@@ -131,7 +141,7 @@ pub fn run<S: Store, O: Sink>(alloc: Global, words: &[Word], store: &mut S, out:
         (StoreFails before after × PrintsFront store_line before after) ⊎ Sees before.files (λ seen. PrintsFront (ending words.now seen).line before after)) }
 
     // Memory is refused only before a file is opened for writing.
-    ensures memory { result ≡ Status.Memory → Between S.Store O.Sink store.old out.old store.new out.new (λ before after.
+    ensures memory { result ≡ Status.OutOfMemory → Between S.Store O.Sink store.old out.old store.new out.new (λ before after.
         (after.files ≡ before.files) × (after.printed ≡ before.printed) × (S.is_writing store.new ≡ S.is_writing store.old)) }
 
     // The headline: the tree that is wanted is written shortest and certified.

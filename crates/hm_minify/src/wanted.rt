@@ -5,7 +5,7 @@ ghost use Rattle.hm_words.specs.Answers.{request_of};
 ghost use Rattle.hm_input.specs.Inputs as inputs;
 ghost use Rattle.hm_minify.specs.Wanted as spec;
 
-use hm_base::Memory;
+use hm_base::OutOfMemory;
 use hm_input::Input;
 use hm_order::reorder;
 use hm_words::Asked;
@@ -13,7 +13,7 @@ use std::alloc::Global;
 
 /// What a request works on, of what was read for it: with the flag for it, the attributes of each tag are put into the order in which
 /// its text is shortest.
-pub fn wanted(alloc: Global, input: Input, asked: &Asked<'_>) -> Result<Input, Memory>
+pub fn wanted(alloc: Global, input: Input, asked: &Asked<'_>) -> Result<Input, OutOfMemory>
     requires settled { Settled input.tree }
     ensures wanted { IfOk result (λ made. inputs.tree made.bytes made.table.entries made.tree ≡ spec.wanted (request_of asked.now) (inputs.tree input.bytes input.table.entries input.tree)) }
     ensures settled { IfOk result (λ made. Settled made.tree) }

@@ -16,13 +16,13 @@ ghost use Rattle.hm_minify.specs.Wanted.{input_of};
 
 use crate::Status;
 use crate::checked::check_files;
-use crate::ended::{Ended, Output, Said, Stop, says, says_lines, shows, tells_json};
+use crate::ended::{Output, Printed, RunEnd, Stop, says, says_lines, shows, tells_json};
 use crate::lines::{json_line, length_line, refused_line, table_line};
 use crate::measured::measure;
 use crate::wanted::wanted;
-use hm_base::{Format, Memory};
+use hm_base::{Format, OutOfMemory};
 use hm_dump::Shown;
-use hm_input::{Found, Input, Unread, front, load_explained, load_input};
+use hm_input::{Found, Input, InputFault, front, load_explained, load_input};
 use hm_json_tree::JsonShown;
 use hm_location::{explained_page, settled_line};
 use hm_order::{Minified, minify_tree};
@@ -35,7 +35,11 @@ use std::alloc::Global;
 pub fn format_of(sparse: bool) -> Format
     ensures { result ≡ spec.format_of sparse }
 {
-    if sparse { Format::Three } else { Format::Two }
+    if sparse {
+        Format::Sparse
+    } else {
+        Format::Compact
+    }
 }
 
 /// Where what is written of a text begins, in bytes: after the front of a fragment, or at its first byte.
@@ -51,7 +55,7 @@ fn begin_of(frame: bool, text: &[u8]) -> usize
 }
 
 /// The tree of an input, written shortest, with its certificate.
-fn write_shortest(alloc: Global, input: &Input, writing: Writing) -> Result<Minified, Memory>
+fn write_shortest(alloc: Global, input: &Input, writing: Writing) -> Result<Minified, OutOfMemory>
     requires settled { Settled input.now.tree }
     ensures made { IfOk result (IsMinifiedBy input.now.table.entries writing.rules (spec.format_of writing.sparse) input.now.tree) }
     ensures readable { IfOk result (λ _. AreRows (certified_rows input.now.table.entries writing.rules (spec.format_of writing.sparse) input.now.tree)) }
@@ -72,7 +76,7 @@ fn minify<'w>(
     writing: Writing,
     out: &'w str,
     cert: &'w str,
-) -> Result<Ended<'w>, Stop>
+) -> Result<RunEnd<'w>, Stop>
     requires settled { Settled input.now.tree }
     ensures ended { IfOk result (λ ended. ended ≡ spec.minified_ending writing out.now cert.now input.now.table.entries input.now.tree) }
     ensures readable { IfOk result (λ _. AreRows (certified_rows input.now.table.entries writing.rules (spec.format_of writing.sparse) input.now.tree)) }
@@ -92,15 +96,15 @@ fn minify<'w>(
         bytes: minified.certificate,
         from: 0,
     })?;
-    Ok(Ended {
+    Ok(RunEnd {
         status: Status::Done,
-        said: Said::Line { line },
+        said: Printed::Line { line },
         outputs,
     })
 }
 
 /// The lines of a tree.
-fn show<'w>(alloc: Global, tree: Tree) -> Result<Ended<'w>, Stop>
+fn show<'w>(alloc: Global, tree: Tree) -> Result<RunEnd<'w>, Stop>
     ensures ended { IfOk result (λ ended. ended ≡ spec.says Status.Done (dump_of tree)) }
     ensures memory { result ≢ Err Stop.Store }
 {
@@ -108,7 +112,7 @@ fn show<'w>(alloc: Global, tree: Tree) -> Result<Ended<'w>, Stop>
 }
 
 /// The JSON of a tree.
-fn tell_json<'w>(alloc: Global, tree: Tree) -> Result<Ended<'w>, Stop>
+fn tell_json<'w>(alloc: Global, tree: Tree) -> Result<RunEnd<'w>, Stop>
     ensures ended { IfOk result (λ ended. ended ≡ spec.says Status.Done (json_text tree ++ 10 ∷ [])) }
     ensures memory { result ≢ Err Stop.Store }
 {
@@ -132,7 +136,12 @@ fn page_name<'w>(origin: &Origin<'w>) -> &'w str
 }
 
 /// Writes the tree of a page of this name shortest, and says how long that is. No file is written.
-fn settle<'w>(alloc: Global, input: &Input, writing: Writing, name: &str) -> Result<Ended<'w>, Stop>
+fn settle<'w>(
+    alloc: Global,
+    input: &Input,
+    writing: Writing,
+    name: &str,
+) -> Result<RunEnd<'w>, Stop>
     requires settled { Settled input.now.tree }
     ensures ended { IfOk result (λ ended. ended ≡ spec.settled_ending name.now input.now.bytes writing input.now.table.entries input.now.tree) }
     ensures readable { IfOk result (λ _. AreRows (certified_rows input.now.table.entries writing.rules (spec.format_of writing.sparse) input.now.tree)) }
@@ -152,7 +161,7 @@ fn answer<'w, S: Store>(
     asked: &Asked<'w>,
     input: Input,
     store: &mut S,
-) -> Result<Ended<'w>, Stop>
+) -> Result<RunEnd<'w>, Stop>
     requires settled { Settled input.tree }
     requires apart { request.is_apart (origin_of asked.now.origin) (work_of asked.now.work) ≡ true }
     ensures ended { IfOk result (λ ended. Sees (S.files store.old) (λ seen. ended ≡ spec.tree_ending (spec.page_name (origin_of asked.now.origin)) (work_of asked.now.work) asked.now.writing seen input.bytes input.table.entries input.tree)) }
@@ -177,21 +186,25 @@ fn answer<'w, S: Store>(
 }
 
 /// What a request ends with where there is no tree, by why there is none.
-fn without_tree<'w>(alloc: Global, unread: Unread) -> Result<Ended<'w>, Stop>
+fn without_tree<'w>(alloc: Global, unread: InputFault) -> Result<RunEnd<'w>, Stop>
     ensures said { IfOk result (IsSaidWithout unread) }
     ensures answers { IfOk result (λ ended. spec.is_fault ended.status ≡ false) }
-    ensures store { result ≡ Err Stop.Store → unread ≡ Unread.Store }
+    ensures store { result ≡ Err Stop.Store → unread ≡ InputFault.Store }
 {
     match unread {
-        Unread::Table { fault } => {
+        InputFault::Table { fault } => {
             Ok(says(alloc, Status::TableRefused, table_line(alloc, &fault)?))
         }
-        Unread::Page { rule, at } => {
+        InputFault::Page { rule, at } => {
             Ok(says(alloc, Status::PageRefused, refused_line(alloc, rule, at)?))
         }
-        Unread::Json { fault } => Ok(says(alloc, Status::JsonRefused, json_line(alloc, fault)?)),
-        Unread::Store => Err(Stop::Store),
-        Unread::Memory => Err(Stop::Memory),
+        InputFault::Json { fault } => Ok(says(
+            alloc,
+            Status::JsonRefused,
+            json_line(alloc, fault)?,
+        )),
+        InputFault::Store => Err(Stop::Store),
+        InputFault::OutOfMemory => Err(Stop::OutOfMemory),
     }
 }
 
@@ -200,7 +213,7 @@ fn work_plain<'w, S: Store>(
     alloc: Global,
     asked: &Asked<'w>,
     store: &mut S,
-) -> Result<Ended<'w>, Stop>
+) -> Result<RunEnd<'w>, Stop>
     requires apart { request.is_apart (origin_of asked.now.origin) (work_of asked.now.work) ≡ true }
     requires plain { spec.is_explained (origin_of asked.now.origin) (work_of asked.now.work) ≡ false }
     ensures ended { IfOk result (λ ended. Sees (S.files store.old) (λ seen. (ended ≡ spec.asked_ending (request_of asked.now) seen)
@@ -224,7 +237,7 @@ fn work_explained<'w, S: Store>(
     store: &mut S,
     table: &str,
     page: &str,
-) -> Result<Ended<'w>, Stop>
+) -> Result<RunEnd<'w>, Stop>
     requires apart { request.is_apart (origin_of asked.now.origin) (work_of asked.now.work) ≡ true }
     requires origin { origin_of asked.now.origin ≡ request.page_at table.now page.now }
     requires work { work_of asked.now.work ≡ request.explains }
@@ -257,7 +270,7 @@ pub fn work<'w, S: Store>(
     alloc: Global,
     asked: &Asked<'w>,
     store: &mut S,
-) -> Result<Ended<'w>, Stop>
+) -> Result<RunEnd<'w>, Stop>
     requires apart { request.is_apart (origin_of asked.now.origin) (work_of asked.now.work) ≡ true }
     ensures ended { IfOk result (λ ended. Sees (S.files store.old) (λ seen. (ended ≡ spec.asked_ending (request_of asked.now) seen)
         × spec.IsReadable (request_of asked.now) (input_of (request_of asked.now) seen))) }

@@ -4,9 +4,9 @@ use Rattle.hm_graph_laws.proofs.CharacterWays.{in_map, mapped}
 use Rattle.hm_graph_laws.specs.AttributeEdges.{gap_at}
 use Rattle.hm_graph_laws.specs.CharacterEdges.{Choice, choices, kept_at}
 use Rattle.hm_graph_laws.specs.Edges.{Edge, edge, edge_length, edge_to}
-use Rattle.hm_graph_laws.specs.States.{Where, State, Pending, behind_quoted, behind_unquoted, first_state, in_double, in_single, in_unquoted, loose, nothing, self_closed, state}
+use Rattle.hm_graph_laws.specs.States.{Where, State, Pending, after_quoted, after_unquoted, first_state, in_double, in_single, in_unquoted, loose, nothing, self_closed, state}
 use Rattle.hm_graph_laws.specs.Steps.{may_end}
-use Rattle.hm_graph_laws.specs.TagEdges.{behind_left_out, end_bytes}
+use Rattle.hm_graph_laws.specs.TagEdges.{after_left_out, end_bytes}
 use Rattle.hm_graph_laws.specs.UnitEdges.{edges_of}
 use Rattle.hm_graph_laws.specs.Units.{Unit, in_foreign, in_rcdata, in_text, in_value, fixed, start_tag, tag_name, bare_attribute, attribute_name, character, attribute_end, tag_close, end_tag}
 use Rattle.hm_graph_laws.specs.Ways.{Way}
@@ -45,7 +45,7 @@ kept_near at near more ks e i =
 choices_near : (at near : Where) (more : ℕ) (ks : List Choice) → AreBettered (IsNear at near more) (map (kept_at at) ks ++ []) (map (kept_at near) ks ++ [])
 choices_near at near more ks = join_bettered (IsNear at near more) (map (kept_at at) ks) (map (kept_at near) ks) [] [] (kept_near at near more ks) (none_bettered (IsNear at near more) [])
 
-left_out_near : (at near : Where) (more : ℕ) (loosens : Bool) (p : Pending) → AreBettered (IsNear at near more) (edge_to [] (behind_left_out loosens (state at p)) ∷ []) (edge_to [] (behind_left_out loosens (state near p)) ∷ [])
+left_out_near : (at near : Where) (more : ℕ) (loosens : Bool) (p : Pending) → AreBettered (IsNear at near more) (edge_to [] (after_left_out loosens (state at p)) ∷ []) (edge_to [] (after_left_out loosens (state near p)) ∷ [])
 left_out_near at near more true p = same_near at near more (edge_to [] (state loose nothing) ∷ [])
 left_out_near at near more false p = in_place at near more p
 
@@ -56,10 +56,10 @@ start_near at near more omits es p =
     (same_near at near more es)
 
 end_near : (at near : Where) (more : ℕ) (omits loosens : Bool) (es : List Edge) (p : Pending)
-    → AreBettered (IsNear at near more) (cond omits (edge_to [] (behind_left_out loosens (state at p)) ∷ []) [] ++ es) (cond omits (edge_to [] (behind_left_out loosens (state near p)) ∷ []) [] ++ es)
+    → AreBettered (IsNear at near more) (cond omits (edge_to [] (after_left_out loosens (state at p)) ∷ []) [] ++ es) (cond omits (edge_to [] (after_left_out loosens (state near p)) ∷ []) [] ++ es)
 end_near at near more omits loosens es p =
-    join_bettered (IsNear at near more) (cond omits (edge_to [] (behind_left_out loosens (state at p)) ∷ []) []) (cond omits (edge_to [] (behind_left_out loosens (state near p)) ∷ []) []) es es
-    (test_bettered (IsNear at near more) omits (edge_to [] (behind_left_out loosens (state at p)) ∷ []) (edge_to [] (behind_left_out loosens (state near p)) ∷ []) [] [] (left_out_near at near more loosens p) (none_bettered (IsNear at near more) []))
+    join_bettered (IsNear at near more) (cond omits (edge_to [] (after_left_out loosens (state at p)) ∷ []) []) (cond omits (edge_to [] (after_left_out loosens (state near p)) ∷ []) []) es es
+    (test_bettered (IsNear at near more) omits (edge_to [] (after_left_out loosens (state at p)) ∷ []) (edge_to [] (after_left_out loosens (state near p)) ∷ []) [] [] (left_out_near at near more loosens p) (none_bettered (IsNear at near more) []))
     (same_near at near more es)
 
 -- the gaps before an attribute
@@ -95,41 +95,41 @@ closing_near at near more false b = none_bettered (IsNear at near more) _
 abbrev pub AreNear : Spelling → Where → Where → ℕ → Type 0
 AreNear g at near more = (unit : Unit) (p : Pending) → AreBettered (IsNear at near more) (edges_of g unit (state at p)) (edges_of g unit (state near p))
 
-gaps_quoted : (tight : Bool) → GapsNear behind_unquoted behind_quoted 0 tight
+gaps_quoted : (tight : Bool) → GapsNear after_unquoted after_quoted 0 tight
 gaps_quoted true n = omega arith
 gaps_quoted false n = omega arith
 
-gaps_unquoted : (tight : Bool) → GapsNear behind_quoted behind_unquoted 1 tight
+gaps_unquoted : (tight : Bool) → GapsNear after_quoted after_unquoted 1 tight
 gaps_unquoted true n = omega arith
 gaps_unquoted false n = omega arith
 
-pub quoted_near : (g : Spelling) → AreNear g behind_unquoted behind_quoted 0
-quoted_near g (fixed b) p = same_near behind_unquoted behind_quoted 0 (edges_of g (fixed b) (state behind_quoted p))
-quoted_near g (start_tag n omits firm closes) p = start_near behind_unquoted behind_quoted 0 (omits && not (firm && false)) _ p
-quoted_near g (tag_name n) p = same_near behind_unquoted behind_quoted 0 (edges_of g (tag_name n) (state behind_quoted p))
-quoted_near g (bare_attribute n) p = to_same behind_unquoted behind_quoted 0 _ _ _ (gaps_quoted g.rules.tight n)
-quoted_near g (attribute_name n v) p = opening_near behind_unquoted behind_quoted 0 g.rules.tight g.rules.unquote n (gaps_quoted g.rules.tight)
-quoted_near g (character in_text c next) p = choices_near behind_unquoted behind_quoted 0 (choices g.table (character_rules g) text c next p)
-quoted_near g (character in_rcdata c next) p = choices_near behind_unquoted behind_quoted 0 (choices g.table (character_rules g) rcdata c next p)
-quoted_near g (character in_foreign c next) p = choices_near behind_unquoted behind_quoted 0 (choices g.table (character_rules g) foreign c next p)
-quoted_near g (character in_value c next) p = choices_near behind_unquoted behind_quoted 0 (choices g.table (character_rules g) double c next p)
-quoted_near g attribute_end p = closing_near behind_unquoted behind_quoted 0 (may_end g.table double p) (may_end g.table double p)
-quoted_near g (tag_close closes) p = close_near behind_unquoted behind_quoted 0 closes (codes " />") (codes "/>") (omega arith)
-quoted_near g (end_tag n omits loosens) p = end_near behind_unquoted behind_quoted 0 omits loosens (edge_to (end_bytes n) first_state ∷ []) p
+pub quoted_near : (g : Spelling) → AreNear g after_unquoted after_quoted 0
+quoted_near g (fixed b) p = same_near after_unquoted after_quoted 0 (edges_of g (fixed b) (state after_quoted p))
+quoted_near g (start_tag n omits firm closes) p = start_near after_unquoted after_quoted 0 (omits && not (firm && false)) _ p
+quoted_near g (tag_name n) p = same_near after_unquoted after_quoted 0 (edges_of g (tag_name n) (state after_quoted p))
+quoted_near g (bare_attribute n) p = to_same after_unquoted after_quoted 0 _ _ _ (gaps_quoted g.rules.tight n)
+quoted_near g (attribute_name n v) p = opening_near after_unquoted after_quoted 0 g.rules.tight g.rules.unquote n (gaps_quoted g.rules.tight)
+quoted_near g (character in_text c next) p = choices_near after_unquoted after_quoted 0 (choices g.table (character_rules g) text c next p)
+quoted_near g (character in_rcdata c next) p = choices_near after_unquoted after_quoted 0 (choices g.table (character_rules g) rcdata c next p)
+quoted_near g (character in_foreign c next) p = choices_near after_unquoted after_quoted 0 (choices g.table (character_rules g) foreign c next p)
+quoted_near g (character in_value c next) p = choices_near after_unquoted after_quoted 0 (choices g.table (character_rules g) double c next p)
+quoted_near g attribute_end p = closing_near after_unquoted after_quoted 0 (may_end g.table double p) (may_end g.table double p)
+quoted_near g (tag_close closes) p = close_near after_unquoted after_quoted 0 closes (codes " />") (codes "/>") (omega arith)
+quoted_near g (end_tag n omits loosens) p = end_near after_unquoted after_quoted 0 omits loosens (edge_to (end_bytes n) first_state ∷ []) p
 
-pub unquoted_near : (g : Spelling) → AreNear g behind_quoted behind_unquoted 1
-unquoted_near g (fixed b) p = same_near behind_quoted behind_unquoted 1 (edges_of g (fixed b) (state behind_quoted p))
-unquoted_near g (start_tag n omits firm closes) p = start_near behind_quoted behind_unquoted 1 (omits && not (firm && false)) _ p
-unquoted_near g (tag_name n) p = same_near behind_quoted behind_unquoted 1 (edges_of g (tag_name n) (state behind_quoted p))
-unquoted_near g (bare_attribute n) p = to_same behind_quoted behind_unquoted 1 _ _ _ (gaps_unquoted g.rules.tight n)
-unquoted_near g (attribute_name n v) p = opening_near behind_quoted behind_unquoted 1 g.rules.tight g.rules.unquote n (gaps_unquoted g.rules.tight)
-unquoted_near g (character in_text c next) p = choices_near behind_quoted behind_unquoted 1 (choices g.table (character_rules g) text c next p)
-unquoted_near g (character in_rcdata c next) p = choices_near behind_quoted behind_unquoted 1 (choices g.table (character_rules g) rcdata c next p)
-unquoted_near g (character in_foreign c next) p = choices_near behind_quoted behind_unquoted 1 (choices g.table (character_rules g) foreign c next p)
-unquoted_near g (character in_value c next) p = choices_near behind_quoted behind_unquoted 1 (choices g.table (character_rules g) double c next p)
-unquoted_near g attribute_end p = closing_near behind_quoted behind_unquoted 1 (may_end g.table double p) (may_end g.table double p)
-unquoted_near g (tag_close closes) p = close_near behind_quoted behind_unquoted 1 closes (codes "/>") (codes " />") (omega arith)
-unquoted_near g (end_tag n omits loosens) p = end_near behind_quoted behind_unquoted 1 omits loosens (edge_to (end_bytes n) first_state ∷ []) p
+pub unquoted_near : (g : Spelling) → AreNear g after_quoted after_unquoted 1
+unquoted_near g (fixed b) p = same_near after_quoted after_unquoted 1 (edges_of g (fixed b) (state after_quoted p))
+unquoted_near g (start_tag n omits firm closes) p = start_near after_quoted after_unquoted 1 (omits && not (firm && false)) _ p
+unquoted_near g (tag_name n) p = same_near after_quoted after_unquoted 1 (edges_of g (tag_name n) (state after_quoted p))
+unquoted_near g (bare_attribute n) p = to_same after_quoted after_unquoted 1 _ _ _ (gaps_unquoted g.rules.tight n)
+unquoted_near g (attribute_name n v) p = opening_near after_quoted after_unquoted 1 g.rules.tight g.rules.unquote n (gaps_unquoted g.rules.tight)
+unquoted_near g (character in_text c next) p = choices_near after_quoted after_unquoted 1 (choices g.table (character_rules g) text c next p)
+unquoted_near g (character in_rcdata c next) p = choices_near after_quoted after_unquoted 1 (choices g.table (character_rules g) rcdata c next p)
+unquoted_near g (character in_foreign c next) p = choices_near after_quoted after_unquoted 1 (choices g.table (character_rules g) foreign c next p)
+unquoted_near g (character in_value c next) p = choices_near after_quoted after_unquoted 1 (choices g.table (character_rules g) double c next p)
+unquoted_near g attribute_end p = closing_near after_quoted after_unquoted 1 (may_end g.table double p) (may_end g.table double p)
+unquoted_near g (tag_close closes) p = close_near after_quoted after_unquoted 1 closes (codes "/>") (codes " />") (omega arith)
+unquoted_near g (end_tag n omits loosens) p = end_near after_quoted after_unquoted 1 omits loosens (edge_to (end_bytes n) first_state ∷ []) p
 
 -- ---- Ways
 

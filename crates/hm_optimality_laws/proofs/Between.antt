@@ -3,7 +3,7 @@ use Rattle.std.proofs.Common.{◌≡◌, ℕ, Bool, true, false, ◌&&◌, ◌||
 use Rattle.std.proofs.lemmas.Bool.{both_ways}
 use Rattle.hm_base.specs.Walks.{Attribute, Event, doctype, start, text, comment, end, Element, begins_end, begins_text}
 use Rattle.hm_elements.specs.Names.{words, is_among, table}
-use Rattle.hm_elements.specs.Omission.{bars_start}
+use Rattle.hm_elements.specs.Omission.{start_tag_required_after}
 use Rattle.hm_elements.specs.Paths.{current, is_in_svg, is_in_text, outer}
 use Rattle.hm_elements.specs.Tables.{holds_text, is_void}
 use Rattle.hm_refs.specs.Names.{Entry}
@@ -12,7 +12,7 @@ use Rattle.hm_spelling_spec.specs.Spellings.{Before, drops_first_line_feed, end_
 use Rattle.hm_graph_laws.specs.TagEdges.{is_loose, is_self_closed, unloosed}
 use Rattle.hm_graph_laws.specs.States.{Where, outside, loose, self_closed, Pending, nothing}
 use Rattle.hm_graph_laws.specs.Steps.{Fits}
-use Rattle.hm_graph_laws.specs.Units.{Previous, is_behind_start, is_firm, is_loose_end}
+use Rattle.hm_graph_laws.specs.Units.{Previous, is_after_start, is_firm, is_loose_end}
 use Rattle.hm_optimality_laws.proofs.Order.{element, EndFits}
 use Rattle.hm_optimality_laws.proofs.Spots.{fits_over, text_spot}
 use Rattle.hm_optimality_laws.proofs.Tables.{bars_nothing, begins_tag, IsOpenName, loose_goes, table_not_void, table_stays, void_plain}
@@ -25,7 +25,7 @@ pub data Place (path : List Element) (w : List Event) (at : Where) : Type 0 wher
 
 -- a raw text comes first, or a line feed that isn't read, or a text of title or textarea
 abbrev pub needs_nothing : Previous → List Element → List Event → Bool
-needs_nothing previous path w = begins_text w && (is_in_text path || (is_behind_start previous && drops_first_line_feed path))
+needs_nothing previous path w = begins_text w && (is_in_text path || (is_after_start previous && drops_first_line_feed path))
 
 pub record Agrees (t : List Entry) (before : Before) (previous : Previous) (path : List Element) (at : Where) (p : Pending) (w : List Event) : Type 0 where
   pub place : Place path w at
@@ -33,7 +33,7 @@ pub record Agrees (t : List Entry) (before : Before) (previous : Previous) (path
   pub quiet : needs_nothing previous path w ≡ true → p ≡ nothing
   pub calm : is_self_closed at ≡ true → p ≡ nothing
   pub self : is_self_closing before ≡ is_self_closed at
-  pub behind_start : begins_text w ≡ true → is_opening before ≡ is_behind_start previous
+  pub after_start : begins_text w ≡ true → is_opening before ≡ is_after_start previous
   pub barred : (n : List ℕ) → bars (left_out_before before) n ≡ is_firm previous n && is_loose at
 
 and_false : (b : Bool) → b && false ≡ false
@@ -51,25 +51,25 @@ not_closed : (at : Where) → at ≡ outside → is_self_closed at ≡ true → 
 not_closed at e h = let k : is_self_closed outside ≡ true = subst (λ a. is_self_closed a ≡ true) e h in cc
 
 -- after what is written nothing is pending
-pub fresh : (t : List Entry) (before : Before) (previous : Previous) (path : List Element) (w : List Event) → is_opening before ≡ is_behind_start previous → is_self_closing before ≡ false → left_out_before before ≡ None → Agrees t before previous path outside nothing w
+pub fresh : (t : List Entry) (before : Before) (previous : Previous) (path : List Element) (w : List Event) → is_opening before ≡ is_after_start previous → is_self_closing before ≡ false → left_out_before before ≡ None → Agrees t before previous path outside nothing w
 fresh t before previous path w o s l = record {
   place = at_outside refl;
   fits = tt;
   quiet = λ h. refl;
   calm = λ h. refl;
   self = s;
-  behind_start = λ h. o;
+  after_start = λ h. o;
   barred = λ n. ap (λ x. bars x n) l ∙ sym (and_false (is_firm previous n));
 }
 
-pub behind_text : (t : List Entry) (path : List Element) (w : List Event) (s : List ℕ) (raw : Bool) (at : Where) (p : Pending) → at ≡ outside → Fits t (spot_of path) p → begins_text w ≡ false → Agrees t other (Some (text s raw)) path at p w
-behind_text t path w s raw at p here f alone = record {
+pub after_text : (t : List Entry) (path : List Element) (w : List Event) (s : List ℕ) (raw : Bool) (at : Where) (p : Pending) → at ≡ outside → Fits t (spot_of path) p → begins_text w ≡ false → Agrees t other (Some (text s raw)) path at p w
+after_text t path w s raw at p here f alone = record {
   place = at_outside here;
   fits = f;
   quiet = λ h. absurd (let k : false && (is_in_text path || (false && drops_first_line_feed path)) ≡ true = rw alone at h in cc);
   calm = λ h. absurd (not_closed at here h);
   self = rw here refl;
-  behind_start = λ h. refl;
+  after_start = λ h. refl;
   barred = λ n. refl;
 }
 
@@ -91,7 +91,7 @@ start_left t before previous path at p n attributes w o a =
       quiet = λ h. absurd (nothing_needed (begins_text w) (rw (feed_is n path, o.no_text, o.no_feed) at h));
       calm = λ h. absurd (not_closed (unloosed at) here h);
       self = rw here refl;
-      behind_start = λ h. refl;
+      after_start = λ h. refl;
       barred = λ m. refl;
     }
   where
@@ -115,7 +115,7 @@ start_closed t path n attributes w e = record {
   quiet = λ h. refl;
   calm = λ h. refl;
   self = refl;
-  behind_start = λ h. absurd (end_no_text w e h);
+  after_start = λ h. absurd (end_no_text w e h);
   barred = λ m. refl;
 }
 
@@ -148,7 +148,7 @@ end_void t before previous path at p n w f v a =
       quiet = λ h. absurd (quiet_end n path w f.placed.around h);
       calm = λ h. absurd (not_closed at here h);
       self = rw here refl;
-      behind_start = λ h. refl;
+      after_start = λ h. refl;
       barred = λ m. sym (rw (bars_nothing n m (void_plain n v).0) refl);
     }
   where
@@ -168,7 +168,7 @@ end_left t before previous path at p n w f l s falls a =
       quiet = λ h. absurd (quiet_end n path w f.placed.around h);
       calm = λ h. absurd (not_closed at here h);
       self = rw here refl;
-      behind_start = λ h. refl;
+      after_start = λ h. refl;
       barred = λ m. rw (bars_nothing n m l) refl;
     }
   where
@@ -185,8 +185,8 @@ end_loosened t path n w f l falls = record {
   quiet = λ h. refl;
   calm = λ h. refl;
   self = refl;
-  behind_start = λ h. refl;
-  barred = λ m. sym (and_true (bars_start n m));
+  after_start = λ h. refl;
+  barred = λ m. sym (and_true (start_tag_required_after n m));
 }
 
 -- before a text the place is outside of all

@@ -12,10 +12,10 @@ pub record Cut (es : Edges) (us vs : List Unit) (from : State) (b : List ℕ) : 
   pub rest : List ℕ
   pub whole : b ≡ front ++ rest
   pub before : WayTo es us from front middle
-  pub behind : Way es vs middle rest
+  pub after : Way es vs middle rest
 
 pub cut : (es : Edges) (us vs : List Unit) (from : State) (b : List ℕ) → Way es (us ++ vs) from b → Cut es us vs from b
-cut es [] vs from b w = record { middle = from; front = []; rest = b; whole = refl; before = (refl, refl); behind = w }
+cut es [] vs from b w = record { middle = from; front = []; rest = b; whole = refl; before = (refl, refl); after = w }
 cut es (unit ∷ us) vs from b (e, i, (rest, is, w)) =
     let c = cut es us vs e.to rest w in
     record {
@@ -24,7 +24,7 @@ cut es (unit ∷ us) vs from b (e, i, (rest, is, w)) =
       rest = c.rest;
       whole = is ∙ ap (λ x. e.bytes ++ x) c.whole ∙ sym (append_assoc e.bytes c.front c.rest);
       before = (e, i, (c.front, refl, c.before));
-      behind = c.behind;
+      after = c.after;
     }
 
 pub joined : (es : Edges) (us vs : List Unit) (from middle : State) (b c : List ℕ) → WayTo es us from b middle → Way es vs middle c → Way es (us ++ vs) from (b ++ c)

@@ -12,11 +12,11 @@ use Rattle.hm_graph_laws.proofs.ChoiceLaws.{IsNamedChoice, named_is}
 use Rattle.hm_graph_laws.proofs.In.{in_append}
 use Rattle.hm_graph_laws.proofs.Numbers.{two_in}
 use Rattle.hm_graph_laws.proofs.Runs.{Special, no_child, onto_none}
-use Rattle.hm_graph_laws.specs.CharacterEdges.{Choice, as_itself, behind_name, behind_pair, by_decimal, by_hexadecimal, by_names, by_pairs, by_references, choice, half_of, itself_by, itself_to}
+use Rattle.hm_graph_laws.specs.CharacterEdges.{Choice, as_itself, after_name, after_pair, by_decimal, by_hexadecimal, by_names, by_pairs, by_references, choice, half_of, itself_by, itself_to}
 use Rattle.hm_graph_laws.specs.States.{Where, Pending, nothing, less_than, hash, hash_x, decimal, hexadecimal, ampersand, named, half, one_bracket, two_brackets, value_spot}
 use Rattle.hm_graph_laws.specs.Steps.{ampersand_in_text, ampersand_in_value, is_root, named_in_value, onto, run, step}
 use Rattle.hm_optimality_laws.proofs.FormChoices.{opens_none, value_is}
-use Rattle.hm_graph_laws.specs.Forms.{gives_both, is_second, makes_cheap, may_be_dear, stands}
+use Rattle.hm_graph_laws.specs.Forms.{gives_both, is_second, makes_cheap, may_be_costly, stands}
 use Rattle.hm_refs.proofs.Bools.{eq_of}
 use Rattle.hm_refs.specs.Names.{Entry, is_closed, is_name}
 use Rattle.hm_refs.specs.Numbers.{best_number, point_of}
@@ -99,7 +99,7 @@ one_of c n b i more h = by_test (c == n) refl h
     by_test true e k = subst Inert (sym (eq_of c n e)) i
     by_test false e k = more k
 
-pub inert : (c : ℕ) → may_be_dear c ≡ true → Inert c
+pub inert : (c : ℕ) → may_be_costly c ≡ true → Inert c
 inert c =
     one_of c 10 _ at_line_feed (one_of c 12 _ at_form_feed (one_of c 32 _ at_space (one_of c 34 _ at_double (one_of c 39 _ at_single
     (one_of c 60 _ at_less_than (one_of c 61 _ at_equals (one_of c 62 _ at_greater_than (λ h. subst Inert (sym (eq_of c 96 h)) at_grave))))))))
@@ -121,8 +121,8 @@ number_long c i k j = by_two (two_in k _ _ here)
     by_two (inl e) = subst IsLong (sym e) (record { four = let d = i.two_digits in omega (arith, d); free = refl })
     by_two (inr e) = subst IsLong (sym e) (record { four = let d = i.two_digits in omega (arith, d, length-append (fmt.decimal c) (59 ∷ [])); free = refl })
 
-name_free : (m : List ℕ) → half_of (behind_name m) ≡ None
-unfolding behind_name
+name_free : (m : List ℕ) → half_of (after_name m) ≡ None
+unfolding after_name
 name_free m = by_test (is_closed m)
   where
     by_test : (b : Bool) → half_of (cond b nothing (named m)) ≡ None
@@ -136,7 +136,7 @@ IsDearIn t c next = list_any (makes_cheap c next) t ≡ false
 bytes_self : (s r : List ℕ) → s ≡ r → bytes_eq s r ≡ true
 bytes_self s r e = (bytes_eq-Decides s r).1 e
 
-names_long : (t : List Entry) (c : ℕ) (next : Option ℕ) → IsDearIn t c next → (k : Choice) → IsNamedChoice t behind_name (c ∷ []) k → IsLong k
+names_long : (t : List Entry) (c : ℕ) (next : Option ℕ) → IsDearIn t c next → (k : Choice) → IsNamedChoice t after_name (c ∷ []) k → IsLong k
 names_long t c next h k n = subst IsLong (sym n.choice_is) (record {
   four = by_tests (bytes_eq n.entry.points (c ∷ [])) (nat_lt (length n.entry.name) 4) _ refl (bytes_self n.entry.points (c ∷ []) n.points_are) (none_in (makes_cheap c next) n.entry t n.among h);
   free = name_free n.entry.name;
@@ -150,7 +150,7 @@ names_long t c next h k n = subst IsLong (sym n.choice_is) (record {
 no_pairs : (t : List Entry) (c : ℕ) (next : Option ℕ) → IsDearIn t c next → (k : Choice) → IsIn k (by_pairs t c next) → ⊥
 no_pairs t c None h k i = elim i [ ]
 no_pairs t c (Some d) h k i =
-    let n = named_is t behind_pair (c ∷ d ∷ []) k i in
+    let n = named_is t after_pair (c ∷ d ∷ []) k i in
     by_tests (bytes_eq n.entry.points (c ∷ []) && nat_lt (length n.entry.name) 4) (is_second c n.entry.points) (gives_both c (Some d) n.entry.points) (bytes_self n.entry.points (c ∷ d ∷ []) n.points_are) (none_in (makes_cheap c (Some d)) n.entry t n.among h)
   where
     by_tests : (a b e : Bool) → e ≡ true → (a || (b || e)) ≡ false → ⊥
@@ -159,14 +159,14 @@ no_pairs t c (Some d) h k i =
     by_tests false false e s m = cc
 
 pub references_long : (t : List Entry) (c : ℕ) (next : Option ℕ) → Inert c → IsDearIn t c next → (k : Choice) → IsIn k (by_references t c next) → IsLong k
-references_long t c next i h k j = by_first (in_append k (by_names behind_name (c ∷ []) t) (by_pairs t c next ++ (by_decimal (best_number c) ++ by_hexadecimal c)) j)
+references_long t c next i h k j = by_first (in_append k (by_names after_name (c ∷ []) t) (by_pairs t c next ++ (by_decimal (best_number c) ++ by_hexadecimal c)) j)
   where
     by_second : IsIn k (by_pairs t c next) ⊎ IsIn k (by_decimal (best_number c) ++ by_hexadecimal c) → IsLong k
     by_second (inl l) = absurd (no_pairs t c next h k l)
     by_second (inr l) = number_long c i k l
 
-    by_first : IsIn k (by_names behind_name (c ∷ []) t) ⊎ IsIn k (by_pairs t c next ++ (by_decimal (best_number c) ++ by_hexadecimal c)) → IsLong k
-    by_first (inl l) = names_long t c next h k (named_is t behind_name (c ∷ []) k l)
+    by_first : IsIn k (by_names after_name (c ∷ []) t) ⊎ IsIn k (by_pairs t c next ++ (by_decimal (best_number c) ++ by_hexadecimal c)) → IsLong k
+    by_first (inl l) = names_long t c next h k (named_is t after_name (c ∷ []) k l)
     by_first (inr l) = by_second (in_append k (by_pairs t c next) (by_decimal (best_number c) ++ by_hexadecimal c) l)
 
 -- ---- As itself
@@ -224,9 +224,9 @@ takes_itself t k x v c i two_brackets r h = absurd (cc)
 to_nothing : (x : Spot) (c : ℕ) → is_value x ≡ true → (c == 38) ≡ false → itself_to x c nothing ≡ nothing
 to_nothing x c v h = rw (h, v, and_false (c == 60)) refl
 
-dear_stands : (ascii : Bool) (at : Where) (c : ℕ) → Inert c → stands at c ≡ true → may_stand ascii (value_spot at) c ≡ true
+costly_stands : (ascii : Bool) (at : Where) (c : ℕ) → Inert c → stands at c ≡ true → may_stand ascii (value_spot at) c ≡ true
 unfolding may_stand is_writable
-dear_stands ascii at c i h = by_tests ascii (c == 13) (may_stand_in (value_spot at) c) h
+costly_stands ascii at c i h = by_tests ascii (c == 13) (may_stand_in (value_spot at) c) h
   where
     by_tests : (a r m : Bool) → (not r && m) ≡ true → (not r && (not a || (nat_lt c 128 || is_none (best_number c))) && m) ≡ true
     by_tests a true m k = absurd (cc)
@@ -238,7 +238,7 @@ unfolding as_itself
 itself_is t rules at c p i h s =
     let low : c < 128 = let l = i.low in grind (arith) in
     let ran : run t (value_spot at) (Some p) (encode_utf8 c) ≡ Some nothing = ap (λ w. run t (value_spot at) (Some p) w) (encode_ascii c low) ∙ ap (λ o. run t (value_spot at) o []) s in
-    rw (dear_stands rules.ascii at c i h, ran) (rw (encode_ascii c low, to_nothing (value_spot at) c (value_is at) i.no_amp) refl)
+    rw (costly_stands rules.ascii at c i h, ran) (rw (encode_ascii c low, to_nothing (value_spot at) c (value_is at) i.no_amp) refl)
 
 -- where it may not stand as itself
 pub no_itself : (t : List Entry) (rules : CharacterRules) (at : Where) (c : ℕ) (p : Pending) → Inert c → stands at c ≡ false → as_itself t rules (value_spot at) c p ≡ []

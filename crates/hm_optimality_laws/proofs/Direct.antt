@@ -20,10 +20,10 @@ use Rattle.hm_spelling_spec.specs.Tags.{character_rules, Spelling}
 use Rattle.hm_graph_laws.specs.TagEdges.{end_bytes, start_bytes}
 use Rattle.hm_graph_laws.proofs.CharacterWays.{choice_in}
 use Rattle.hm_graph_laws.proofs.In.{in_left, in_right}
-use Rattle.hm_graph_laws.specs.CharacterEdges.{as_itself, behind_name, by_decimal, by_hexadecimal, by_names, by_pairs, by_references, choice, choices, is_in_section, kept_at, spot_at}
+use Rattle.hm_graph_laws.specs.CharacterEdges.{as_itself, after_name, by_decimal, by_hexadecimal, by_names, by_pairs, by_references, choice, choices, is_in_section, kept_at, spot_at}
 use Rattle.hm_graph_laws.proofs.Splits.{join_ways}
 use Rattle.hm_graph_laws.specs.Edges.{Edge, edge, edge_to}
-use Rattle.hm_graph_laws.specs.States.{Where, behind_name as at_name, behind_quoted, decimal, in_double, in_single, in_unquoted, nothing, outside, State, first_state, state}
+use Rattle.hm_graph_laws.specs.States.{Where, after_name as at_name, after_quoted, decimal, in_double, in_single, in_unquoted, nothing, outside, State, first_state, state}
 use Rattle.hm_graph_laws.specs.Steps.{run}
 use Rattle.hm_graph_laws.specs.Units.{attribute_end, attribute_name, attribute_units, bare_attribute, character, character_units, doctype_bytes, end_tag, end_units, fixed, in_value, is_firm, is_loose_end, kind_of, line_feed_units, may_close_itself, next_of, Previous, start_tag, start_units, tag_close, tag_name, text_units, TextKind, Unit, units_from}
 use Rattle.hm_graph_laws.specs.UnitWays.{WayTo}
@@ -114,7 +114,7 @@ calm_number t rules spot c next n r e =
     record {
       bytes = b;
       among = in_right (choice b nothing) (as_itself t rules spot c nothing) (cond (true && rules.refers c) (by_references t c next) [])
-          (rw r (in_right (choice b nothing) (by_names behind_name (c ∷ []) t) (by_pairs t c next ++ (by_decimal (best_number c) ++ by_hexadecimal c))
+          (rw r (in_right (choice b nothing) (by_names after_name (c ∷ []) t) (by_pairs t c next ++ (by_decimal (best_number c) ++ by_hexadecimal c))
           (in_right (choice b nothing) (by_pairs t c next) (by_decimal (best_number c) ++ by_hexadecimal c) (rw e (later open_one (choice b nothing ∷ by_hexadecimal c) (first (by_hexadecimal c)))))));
     }
 
@@ -171,15 +171,15 @@ module _ (g : Spelling) where
       let m = more (state at_name nothing) in
       record { to = m.to; over = add (bare_attribute n) (attribute_units attributes) from m.to (edge (gap_at g.rules.tight from.at ++ n) at_name nothing) (first []) m.over }
   attribute_over plain n (c ∷ s) attributes from more =
-      let m = more (state behind_quoted nothing) in
+      let m = more (state after_quoted nothing) in
       let opens = edge (gap_at g.rules.tight from.at ++ (n ++ codes "=\"")) in_double nothing in
-      let closes = add attribute_end [] (state in_double nothing) (state behind_quoted nothing) (edge (34 ∷ []) behind_quoted nothing) (first []) (none (state behind_quoted nothing)) in
-      let inside = join (character_units in_value (chars (c ∷ s))) (attribute_end ∷ []) (state in_double nothing) (state in_double nothing) (state behind_quoted nothing) (chars_over plain in_value in_double refl (chars (c ∷ s))) closes in
+      let closes = add attribute_end [] (state in_double nothing) (state after_quoted nothing) (edge (34 ∷ []) after_quoted nothing) (first []) (none (state after_quoted nothing)) in
+      let inside = join (character_units in_value (chars (c ∷ s))) (attribute_end ∷ []) (state in_double nothing) (state in_double nothing) (state after_quoted nothing) (chars_over plain in_value in_double refl (chars (c ∷ s))) closes in
       record {
         to = m.to;
         over = add (attribute_name n (chars (c ∷ s))) ((character_units in_value (chars (c ∷ s)) ++ attribute_end ∷ []) ++ attribute_units attributes) from m.to opens
             (in_right opens (cond g.rules.unquote (edge (gap_at g.rules.tight from.at ++ (n ++ codes "=")) in_unquoted nothing ∷ []) []) (opens ∷ edge (gap_at g.rules.tight from.at ++ (n ++ codes "='")) in_single nothing ∷ []) (first (edge (gap_at g.rules.tight from.at ++ (n ++ codes "='")) in_single nothing ∷ [])))
-            (join (character_units in_value (chars (c ∷ s)) ++ attribute_end ∷ []) (attribute_units attributes) (state in_double nothing) (state behind_quoted nothing) m.to inside m.over);
+            (join (character_units in_value (chars (c ∷ s)) ++ attribute_end ∷ []) (attribute_units attributes) (state in_double nothing) (state after_quoted nothing) m.to inside m.over);
       }
 
   attributes_over : SparesOnlyPlain g → (attributes : List Attribute) (from : State) → Attributed attributes from

@@ -3,15 +3,15 @@ use Rattle.std.proofs.Common.{◌≡◌, ◌≤◌, ◌+◌, ℕ, Bool, true, fa
 use Rattle.std.proofs.lemmas.Bool.{and_parts}
 use Rattle.hm_graph_laws.proofs.States.{same_is}
 use Rattle.hm_graph_laws.specs.Edges.{Edge, edge_length}
-use Rattle.hm_graph_laws.specs.States.{Where, outside, loose, self_closed, behind_name, behind_unquoted, behind_quoted, in_unquoted, in_double, in_single, in_section, Pending, nothing, less_than, hash, hash_x, decimal, hexadecimal, ampersand, named, half, one_bracket, two_brackets, State, state, same_state, same_where}
+use Rattle.hm_graph_laws.specs.States.{Where, outside, loose, self_closed, after_name, after_unquoted, after_quoted, in_unquoted, in_double, in_single, in_section, Pending, nothing, less_than, hash, hash_x, decimal, hexadecimal, ampersand, named, half, one_bracket, two_brackets, State, state, same_state, same_where}
 use Rattle.hm_graph_laws.specs.UnitEdges.{edges_of}
 use Rattle.hm_graph_laws.specs.Units.{Unit, fixed, start_tag, tag_name, bare_attribute, attribute_name, character, attribute_end, tag_close, end_tag}
 use Rattle.hm_graph_laws.specs.Ways.{Way}
 use Rattle.hm_optimality_laws.proofs.Forgetting.{forgetting}
 use Rattle.hm_optimality_laws.proofs.FormsBounded.{forms_are_bounded}
-use Rattle.hm_graph_laws.specs.Forms.{added, covers, gains, spared}
+use Rattle.hm_graph_laws.specs.Forms.{added, covers, gains, saved}
 use Rattle.hm_optimality_laws.specs.Forms.{HasFormWay, IsForm, value_and}
-use Rattle.hm_optimality_laws.specs.Outdone.{begins_form, form_outdoes, form_serves, forgotten, is_form, is_nothing, may_forget, serves}
+use Rattle.hm_optimality_laws.specs.Dominated.{begins_form, form_dominates, form_serves, forgotten, is_form, is_nothing, may_forget, can_replace}
 use Rattle.hm_optimality_laws.specs.SparseLaws.{DominanceLosesNothing, HasWayInstead, IsFollowed, Replaces}
 use Rattle.hm_refs.specs.Tables.{IsTable}
 use Rattle.hm_spelling_spec.specs.Tags.{Spelling}
@@ -20,9 +20,9 @@ form_is : (at : Where) → is_form at ≡ true → IsForm at
 form_is outside h = absurd (cc)
 form_is loose h = absurd (cc)
 form_is self_closed h = absurd (cc)
-form_is behind_name h = absurd (cc)
-form_is behind_unquoted h = absurd (cc)
-form_is behind_quoted h = absurd (cc)
+form_is after_name h = absurd (cc)
+form_is after_unquoted h = absurd (cc)
+form_is after_quoted h = absurd (cc)
 form_is in_unquoted h = tt
 form_is in_double h = tt
 form_is in_single h = tt
@@ -56,9 +56,9 @@ Leaves less fewer = (m n : ℕ) → less m n ≡ true → fewer + m ≤ n
 
 module _ (g : Spelling) (table : IsTable g.table) (less : ℕ → ℕ → Bool) (fewer : ℕ) (leaves : Leaves less fewer) where
   -- an end that serves
-  by_end : (units : List Unit) (e f : Edge) → serves f.to e.to && less (edge_length f) (edge_length e) ≡ true → Replaces (edges_of g) units fewer e f
+  by_end : (units : List Unit) (e f : Edge) → can_replace f.to e.to && less (edge_length f) (edge_length e) ≡ true → Replaces (edges_of g) units fewer e f
   by_end units e f h b w =
-      let parts = and_parts (serves f.to e.to) (less (edge_length f) (edge_length e)) h in
+      let parts = and_parts (can_replace f.to e.to) (less (edge_length f) (edge_length e)) h in
       let short : fewer + edge_length f ≤ edge_length e = leaves (edge_length f) (edge_length e) parts.1 in
       by_either (HasWayInstead (edges_of g) units fewer e f b) (same_state f.to e.to) (may_forget e.to && same_state f.to (forgotten e.to)) parts.0
       (λ same. record { bytes = b; way = subst (λ s. Way (edges_of g) units s b) (sym (same_is f.to e.to same)) w; short = omega (arith, short) })
@@ -69,21 +69,21 @@ module _ (g : Spelling) (table : IsTable g.table) (less : ℕ → ℕ → Bool) 
       record { bytes = v.bytes; way = subst (λ s. Way (edges_of g) units s v.bytes) (sym (same_is f.to (forgotten e.to) tests.1)) v.way; short = omega (arith, short, l) })
 
   -- a form that serves
-  by_form : (n v : List ℕ) (rest : List Unit) (e f : Edge) → form_outdoes less g.table (attribute_name n v) e f ≡ true → Replaces (edges_of g) (value_and v rest) fewer e f
+  by_form : (n v : List ℕ) (rest : List Unit) (e f : Edge) → form_dominates less g.table (attribute_name n v) e f ≡ true → Replaces (edges_of g) (value_and v rest) fewer e f
   by_form n v rest e f h b w =
-      let parts = and_parts (form_serves v f.to e.to) (less (edge_length f + added e.to.at) (edge_length e + spared (gains g.table f.to.at e.to.at v))) h in
+      let parts = and_parts (form_serves v f.to e.to) (less (edge_length f + added e.to.at) (edge_length e + saved (gains g.table f.to.at e.to.at v))) h in
       let at_f = and_parts (begins_form f.to) (begins_form e.to && (not (same_where f.to.at e.to.at) && covers f.to.at e.to.at v)) parts.0 in
       let at_e = and_parts (begins_form e.to) (not (same_where f.to.at e.to.at) && covers f.to.at e.to.at v) at_f.1 in
       let wide = (and_parts (not (same_where f.to.at e.to.at)) (covers f.to.at e.to.at v) at_e.1).1 in
       let from = begins_at e.to at_e.0 in
       let into = begins_at f.to at_f.0 in
-      let found : HasFormWay g (value_and v rest) f.to.at b (added e.to.at) (spared (gains g.table f.to.at e.to.at v)) =
+      let found : HasFormWay g (value_and v rest) f.to.at b (added e.to.at) (saved (gains g.table f.to.at e.to.at v)) =
       forms_are_bounded g table v f.to.at e.to.at into.0 from.0 wide rest b (subst (λ s. Way (edges_of g) (value_and v rest) s b) from.1 w) in
-      let short = leaves (edge_length f + added e.to.at) (edge_length e + spared (gains g.table f.to.at e.to.at v)) parts.1 in
+      let short = leaves (edge_length f + added e.to.at) (edge_length e + saved (gains g.table f.to.at e.to.at v)) parts.1 in
       let l = found.short in
       record { bytes = found.bytes; way = subst (λ s. Way (edges_of g) (value_and v rest) s found.bytes) (sym into.1) found.way; short = omega (arith, short, l) }
 
-  by_form_unit : (unit : Unit) (units : List Unit) → IsFollowed unit units → (e f : Edge) → form_outdoes less g.table unit e f ≡ true → Replaces (edges_of g) units fewer e f
+  by_form_unit : (unit : Unit) (units : List Unit) → IsFollowed unit units → (e f : Edge) → form_dominates less g.table unit e f ≡ true → Replaces (edges_of g) units fewer e f
   by_form_unit (fixed b) units follows e f h = absurd (cc)
   by_form_unit (start_tag n omits firm closes) units follows e f h = absurd (cc)
   by_form_unit (tag_name n) units follows e f h = absurd (cc)
@@ -94,10 +94,10 @@ module _ (g : Spelling) (table : IsTable g.table) (less : ℕ → ℕ → Bool) 
   by_form_unit (tag_close closes) units follows e f h = absurd (cc)
   by_form_unit (end_tag n omits loosens) units follows e f h = absurd (cc)
 
-  replaces : (unit : Unit) (units : List Unit) → IsFollowed unit units → (e f : Edge) → (serves f.to e.to && less (edge_length f) (edge_length e)) || form_outdoes less g.table unit e f ≡ true
+  replaces : (unit : Unit) (units : List Unit) → IsFollowed unit units → (e f : Edge) → (can_replace f.to e.to && less (edge_length f) (edge_length e)) || form_dominates less g.table unit e f ≡ true
       → Replaces (edges_of g) units fewer e f
   replaces unit units follows e f h =
-      by_either (Replaces (edges_of g) units fewer e f) (serves f.to e.to && less (edge_length f) (edge_length e)) (form_outdoes less g.table unit e f) h (by_end units e f) (by_form_unit unit units follows e f)
+      by_either (Replaces (edges_of g) units fewer e f) (can_replace f.to e.to && less (edge_length f) (edge_length e)) (form_dominates less g.table unit e f) h (by_end units e f) (by_form_unit unit units follows e f)
 
 no_more : Leaves nat_le 0
 no_more m n h = grind arith

@@ -5,18 +5,18 @@ use Rattle.hm_graph_laws.specs.AttributeEdges.{closed_at}
 use Rattle.hm_graph_laws.specs.UnitEdges.{edges_of}
 use Rattle.hm_graph_laws.specs.Ways.{Way}
 use Rattle.hm_optimality_laws.specs.SparseLaws.{ForgettingIsNoLoss, HasWayOver}
-use Rattle.hm_optimality_laws.specs.Outdone.{forgotten, may_forget}
+use Rattle.hm_optimality_laws.specs.Dominated.{forgotten, may_forget}
 use Rattle.hm_refs.specs.Names.{Entry, is_front, is_name}
 use Rattle.hm_refs.specs.References.{blocks, is_semicolon}
 use Rattle.hm_refs.specs.Tables.{IsIn, first, later}
 use Rattle.hm_spelling_spec.specs.Characters.{CharacterRules, Spot, is_value, may_stand, opens}
 use Rattle.hm_spelling_spec.specs.Tags.{Spelling, character_rules}
-use Rattle.hm_graph_laws.specs.TagEdges.{behind_left_out, end_bytes, is_loose, is_self_closed, unloosed}
+use Rattle.hm_graph_laws.specs.TagEdges.{after_left_out, end_bytes, is_loose, is_self_closed, unloosed}
 use Rattle.hm_graph_laws.proofs.CharacterWays.{in_map}
 use Rattle.hm_graph_laws.proofs.In.{in_append, in_left, in_right}
 use Rattle.hm_graph_laws.specs.CharacterEdges.{Choice, as_itself, by_references, choice, choices, half_of, is_in_section, itself_by, itself_to, kept_at, opened_sections, outside_edges, spot_at}
 use Rattle.hm_graph_laws.specs.Edges.{Edge, edge_length, edge_to}
-use Rattle.hm_graph_laws.specs.States.{Where, outside, loose, self_closed, behind_name, behind_unquoted, behind_quoted, in_unquoted, in_double, in_single, in_section, Pending, nothing, less_than, hash, hash_x, decimal, hexadecimal, ampersand, named, half, one_bracket, two_brackets, State, state, first_state, value_spot}
+use Rattle.hm_graph_laws.specs.States.{Where, outside, loose, self_closed, after_name, after_unquoted, after_quoted, in_unquoted, in_double, in_single, in_section, Pending, nothing, less_than, hash, hash_x, decimal, hexadecimal, ampersand, named, half, one_bracket, two_brackets, State, state, first_state, value_spot}
 use Rattle.hm_graph_laws.specs.Steps.{ampersand_in_text, ampersand_in_value, goes_on_decimal, goes_on_hexadecimal, is_hash, is_root, may_end, named_in_text, named_in_value, onto, run, step, unless}
 use Rattle.hm_graph_laws.specs.Units.{Unit, fixed, start_tag, tag_name, bare_attribute, attribute_name, character, attribute_end, tag_close, end_tag}
 
@@ -210,15 +210,15 @@ unloosed_unopened : (at : Where) → is_in_section (unloosed at) ≡ is_in_secti
 unloosed_unopened outside = refl
 unloosed_unopened loose = refl
 unloosed_unopened self_closed = refl
-unloosed_unopened behind_name = refl
-unloosed_unopened behind_unquoted = refl
-unloosed_unopened behind_quoted = refl
+unloosed_unopened after_name = refl
+unloosed_unopened after_unquoted = refl
+unloosed_unopened after_quoted = refl
 unloosed_unopened in_unquoted = refl
 unloosed_unopened in_double = refl
 unloosed_unopened in_single = refl
 unloosed_unopened in_section = refl
 
-left_out_under : (b : Bool) (s : State) → may_forget s ≡ true → IsUnder (behind_left_out b (forgotten s)) (behind_left_out b s)
+left_out_under : (b : Bool) (s : State) → may_forget s ≡ true → IsUnder (after_left_out b (forgotten s)) (after_left_out b s)
 left_out_under true s h = inl refl
 left_out_under false s h = inr (h, refl)
 
@@ -243,9 +243,9 @@ unit_bettered g (tag_close closes) s h = all_bettered (edges_of g (tag_close clo
 unit_bettered g (end_tag n omits loosens) s h =
     test_bettered IsBetter (is_self_closed s.at) (edge_to [] first_state ∷ []) (edge_to [] first_state ∷ []) _ _
     (all_bettered (edge_to [] first_state ∷ []))
-    (join_bettered IsBetter (cond omits (edge_to [] (behind_left_out loosens s) ∷ []) []) (cond omits (edge_to [] (behind_left_out loosens (forgotten s)) ∷ []) []) (edge_to (end_bytes n) first_state ∷ []) (edge_to (end_bytes n) first_state ∷ [])
-    (test_bettered IsBetter omits (edge_to [] (behind_left_out loosens s) ∷ []) (edge_to [] (behind_left_out loosens (forgotten s)) ∷ []) [] []
-    (one_bettered IsBetter (edge_to [] (behind_left_out loosens s)) (edge_to [] (behind_left_out loosens (forgotten s))) (omega arith, left_out_under loosens s h))
+    (join_bettered IsBetter (cond omits (edge_to [] (after_left_out loosens s) ∷ []) []) (cond omits (edge_to [] (after_left_out loosens (forgotten s)) ∷ []) []) (edge_to (end_bytes n) first_state ∷ []) (edge_to (end_bytes n) first_state ∷ [])
+    (test_bettered IsBetter omits (edge_to [] (after_left_out loosens s) ∷ []) (edge_to [] (after_left_out loosens (forgotten s)) ∷ []) [] []
+    (one_bettered IsBetter (edge_to [] (after_left_out loosens s)) (edge_to [] (after_left_out loosens (forgotten s))) (omega arith, left_out_under loosens s h))
     (none_bettered IsBetter []))
     (all_bettered (edge_to (end_bytes n) first_state ∷ [])))
 

@@ -7,7 +7,7 @@ use Rattle.hm_graph_laws.proofs.In.{only}
 use Rattle.hm_graph_laws.specs.AttributeEdges.{closed_at}
 use Rattle.hm_graph_laws.specs.CharacterEdges.{is_in_section}
 use Rattle.hm_graph_laws.specs.Edges.{Edge, edge, edge_length, edge_to}
-use Rattle.hm_graph_laws.specs.States.{Where, Pending, State, behind_quoted, behind_unquoted, in_double, in_single, in_unquoted, nothing, state, value_spot}
+use Rattle.hm_graph_laws.specs.States.{Where, Pending, State, after_quoted, after_unquoted, in_double, in_single, in_unquoted, nothing, state, value_spot}
 use Rattle.hm_graph_laws.specs.Steps.{may_end}
 use Rattle.hm_graph_laws.specs.UnitEdges.{edges_of}
 use Rattle.hm_graph_laws.specs.Units.{Unit, attribute_end, character, in_value, next_of}
@@ -38,11 +38,11 @@ quote_of in_double = 34 ∷ []
 quote_of in_single = 39 ∷ []
 quote_of at = []
 
-abbrev pub behind_of : Where → Where
-behind_of in_unquoted = behind_unquoted
-behind_of at = behind_quoted
+abbrev pub after_of : Where → Where
+after_of in_unquoted = after_unquoted
+after_of at = after_quoted
 
-closed_is : (at : Where) → Form at → closed_at at ≡ edge (quote_of at) (behind_of at) nothing ∷ []
+closed_is : (at : Where) → Form at → closed_at at ≡ edge (quote_of at) (after_of at) nothing ∷ []
 closed_is at bare = refl
 closed_is at doubled = refl
 closed_is at singled = refl
@@ -55,16 +55,16 @@ unopened at singled = refl
 -- a way after this form in place of one after the other
 pub record Crossed (g : Spelling) (units : List Unit) (form other : Where) (b : List ℕ) : Type 0 where
   pub bytes : List ℕ
-  pub way : Way (edges_of g) units (state (behind_of form) nothing) bytes
+  pub way : Way (edges_of g) units (state (after_of form) nothing) bytes
   pub short : length (quote_of form) + length bytes ≤ length (quote_of other) + length b + added other
 
-to_quoted : (g : Spelling) (units : List Unit) (b : List ℕ) → Way (edges_of g) units (state behind_unquoted nothing) b → HasWayWithin g units (state behind_quoted nothing) (length b + 0)
-to_quoted g units b w = way_near g behind_unquoted behind_quoted 0 (quoted_near g) units nothing b w
+to_quoted : (g : Spelling) (units : List Unit) (b : List ℕ) → Way (edges_of g) units (state after_unquoted nothing) b → HasWayWithin g units (state after_quoted nothing) (length b + 0)
+to_quoted g units b w = way_near g after_unquoted after_quoted 0 (quoted_near g) units nothing b w
 
-to_unquoted : (g : Spelling) (units : List Unit) (b : List ℕ) → Way (edges_of g) units (state behind_quoted nothing) b → HasWayWithin g units (state behind_unquoted nothing) (length b + 1)
-to_unquoted g units b w = way_near g behind_quoted behind_unquoted 1 (unquoted_near g) units nothing b w
+to_unquoted : (g : Spelling) (units : List Unit) (b : List ℕ) → Way (edges_of g) units (state after_quoted nothing) b → HasWayWithin g units (state after_unquoted nothing) (length b + 1)
+to_unquoted g units b w = way_near g after_quoted after_unquoted 1 (unquoted_near g) units nothing b w
 
-crossed : (g : Spelling) (units : List Unit) (form other : Where) (b : List ℕ) → Form form → Form other → Way (edges_of g) units (state (behind_of other) nothing) b → Crossed g units form other b
+crossed : (g : Spelling) (units : List Unit) (form other : Where) (b : List ℕ) → Form form → Form other → Way (edges_of g) units (state (after_of other) nothing) b → Crossed g units form other b
 crossed g units form other b bare bare w = record { bytes = b; way = w; short = omega arith }
 crossed g units form other b bare doubled w = let v = to_unquoted g units b w in record { bytes = v.bytes; way = v.way; short = let k = v.short in omega (arith, k) }
 crossed g units form other b bare singled w = let v = to_unquoted g units b w in record { bytes = v.bytes; way = v.way; short = let k = v.short in omega (arith, k) }
@@ -79,7 +79,7 @@ at_end : (g : Spelling) (units : List Unit) (form other : Where) → Form form �
 at_end g units form other f o p b (e, i, (rest, is, w)) = by_test (may_end g.table (value_spot other) p) refl i
   where
     closed : (at : Where) → Edge
-    closed at = edge (quote_of at) (behind_of at) nothing
+    closed at = edge (quote_of at) (after_of at) nothing
 
     ended : may_end g.table (value_spot other) p ≡ true → e ≡ closed other → HasWayWithin g (attribute_end ∷ units) (state form p) (length b + added other)
     ended m same =

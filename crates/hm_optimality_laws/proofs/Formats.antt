@@ -3,7 +3,7 @@ use Rattle.std.proofs.Common.{◌≡◌, ◌∙◌, ℕ, List, Some, refl, sym}
 use Rattle.hm_base.specs.Walks.{Event}
 use Rattle.hm_base.specs.declared.plain.SpellRules.{SpellRules}
 use Rattle.hm_base.specs.declared.plain.Format.{Format}
-use Rattle.hm_base.specs.declared.plain.Format.TheVariants.{One, Two, Three}
+use Rattle.hm_base.specs.declared.plain.Format.TheVariants.{Full, Compact, Sparse}
 use Rattle.hm_elements.specs.Settled.{Settled}
 use Rattle.hm_graph_laws.proofs.LeastPrices.{first_least, least_number}
 use Rattle.hm_graph_laws.specs.Layers.{first_layer}
@@ -15,7 +15,7 @@ use Rattle.hm_optimality_laws.proofs.Least.{needless}
 use Rattle.hm_optimality_laws.proofs.Shown.{sparse_prices_show}
 use Rattle.hm_optimality_laws.proofs.Values.{trees_have_values}
 use Rattle.hm_optimality_laws.specs.Formats.{edges_by}
-use Rattle.hm_optimality_laws.specs.Outdone.{dominance}
+use Rattle.hm_optimality_laws.specs.Dominated.{dominance}
 use Rattle.hm_optimality_laws.specs.SparseLaws.{HaveValues}
 use Rattle.hm_refs.specs.Names.{Entry}
 use Rattle.hm_refs.specs.Tables.{IsTable}
@@ -28,9 +28,9 @@ use Rattle.hm_optimality_laws.proofs.Direct.{trees_have_ways}
 use Rattle.hm_graph_laws.specs.ExchangeLaws.{sparing_plain}
 
 same_least : (g : Spelling) → IsTable g.table → (format : Format) (units : List Unit) → HaveValues units → (s : State) → least (edges_by format g.table (edges_of g)) units s ≡ least (edges_of g) units s
-same_least g k One units have s = refl
-same_least g k Two units have s = refl
-same_least g k Three units have s = (needless (dominance g.table) (edges_of g) (dominance_loses_nothing g k)).0 units have s
+same_least g k Full units have s = refl
+same_least g k Compact units have s = refl
+same_least g k Sparse units have s = (needless (dominance g.table) (edges_of g) (dominance_loses_nothing g k)).0 units have s
 
 -- the first of the least prices
 pub same_first : (t : List Entry) → IsTable t → (r : SpellRules) (format : Format) (w : List Event)
@@ -42,9 +42,9 @@ same_first t k r format w =
 -- the first way through the units of a tree
 pub same_text : (t : List Entry) → IsTable t → (r : SpellRules) (format : Format) (w : List Event)
     → first_way (edges_by format t (edges_of (sparing_plain t r))) (units_of r w) first_state ≡ first_way (edges_of (sparing_plain t r)) (units_of r w) first_state
-same_text t k r One w = refl
-same_text t k r Two w = refl
-same_text t k r Three w =
+same_text t k r Full w = refl
+same_text t k r Compact w = refl
+same_text t k r Sparse w =
     let g : Spelling = sparing_plain t r in
     let (b, way) = trees_have_ways g (spares_plain t k r) w in
     let (n, is, le) = least_number (edges_of g) (units_of r w) first_state b way in
@@ -53,6 +53,6 @@ same_text t k r Three w =
 -- prices that keep the rules show that no spelling has fewer bytes than the first of them
 pub prices_show : (t : List Entry) → IsTable t → (r : SpellRules) (format : Format) (w : List Event) → Settled w → (prices : List Row) (n : ℕ)
     → Feasible (edges_by format t (edges_of (sparing_plain t r))) (units_of r w) prices → first_price prices ≡ Some n → Shortest t r w n
-prices_show t k r One w s prices n feasible price = feasible_prices_show t k r w s prices n feasible price
-prices_show t k r Two w s prices n feasible price = feasible_prices_show t k r w s prices n feasible price
-prices_show t k r Three w s prices n feasible price = sparse_prices_show t k r w s prices n feasible price
+prices_show t k r Full w s prices n feasible price = feasible_prices_show t k r w s prices n feasible price
+prices_show t k r Compact w s prices n feasible price = feasible_prices_show t k r w s prices n feasible price
+prices_show t k r Sparse w s prices n feasible price = sparse_prices_show t k r w s prices n feasible price

@@ -16,7 +16,7 @@ use Rattle.hm_optimality_laws.proofs.Forgetting.{forgetting, may_forget_is}
 use Rattle.hm_optimality_laws.proofs.FormChoices.{choices_covered, same_step, value_edge, value_is}
 use Rattle.hm_optimality_laws.proofs.FormWays.{Form, form_of, over_value, step_over, unopened}
 use Rattle.hm_optimality_laws.proofs.PendingNames.{Comes, IsDue, choice_comes}
-use Rattle.hm_graph_laws.specs.Forms.{added, covers, gains, gains_after, is_dear, is_second, makes_cheap, may_be_dear, may_leave_open, spared, stands}
+use Rattle.hm_graph_laws.specs.Forms.{added, covers, gains, gains_after, is_costly, is_second, makes_cheap, may_be_costly, may_leave_open, saved, stands}
 use Rattle.hm_optimality_laws.specs.Forms.{FormsAreBounded, HasFormWay, value_and}
 use Rattle.hm_optimality_laws.specs.SparseLaws.{HasWayOver}
 use Rattle.hm_refs.specs.Names.{Entry}
@@ -29,18 +29,18 @@ use Rattle.hm_spelling_spec.specs.Tags.{Spelling, character_rules}
 -- what makes a character dear
 record Dear (t : List Entry) (previous : Option ℕ) (c : ℕ) (next : Option ℕ) : Type 0 where
   inert : Inert c
-  dear_in : IsDearIn t c next
+  costly_in : IsDearIn t c next
   apart : not (c == 61 && may_leave_open t previous) ≡ true
 
 not_true : (b : Bool) → not b ≡ true → b ≡ false
 not_true true h = absurd (cc)
 not_true false h = refl
 
-dear_of : (t : List Entry) (previous : Option ℕ) (c : ℕ) (next : Option ℕ) → is_dear t previous c next ≡ true → Dear t previous c next
-dear_of t previous c next h =
-    let one = and_parts (may_be_dear c) (not (list_any (makes_cheap c next) t) && not (c == 61 && may_leave_open t previous)) h in
+costly_of : (t : List Entry) (previous : Option ℕ) (c : ℕ) (next : Option ℕ) → is_costly t previous c next ≡ true → Dear t previous c next
+costly_of t previous c next h =
+    let one = and_parts (may_be_costly c) (not (list_any (makes_cheap c next) t) && not (c == 61 && may_leave_open t previous)) h in
     let two = and_parts (not (list_any (makes_cheap c next) t)) (not (c == 61 && may_leave_open t previous)) one.1 in
-    record { inert = inert c one.0; dear_in = not_true (list_any (makes_cheap c next) t) two.0; apart = two.1 }
+    record { inert = inert c one.0; costly_in = not_true (list_any (makes_cheap c next) t) two.0; apart = two.1 }
 
 ready_of : (t : List Entry) (previous next : Option ℕ) (c : ℕ) (p : Pending) → not (c == 61 && may_leave_open t previous) ≡ true → Comes t previous next p → Ready c p
 ready_of t previous next c (ampersand q) n h = h
@@ -83,7 +83,7 @@ module _ (t : List Entry) (table : IsTable t) (rules : CharacterRules) (form oth
           rw (itself_is t rules form c p d.inert h (takes_itself t table (value_spot form) (value_is form) c d.inert p r takes)) (first _)
 
       by_tests : (a b : Bool) → is_some (step t (value_spot other) p 38) ≡ a → IsIn k (cond (a && b) (by_references t c next) []) → IsLong k × IsIn (choice (c ∷ []) nothing) (as_itself t rules (value_spot form) c p ++ refer form)
-      by_tests true true s j = (references_long t c next d.inert d.dear_in k j, literal s)
+      by_tests true true s j = (references_long t c next d.inert d.costly_in k j, literal s)
       by_tests true false s j = elim j [ ]
       by_tests false b s j = elim j [ ]
 
@@ -93,7 +93,7 @@ module _ (t : List Entry) (table : IsTable t) (rules : CharacterRules) (form oth
 
   gives : stands form c ≡ true → stands other c ≡ false → (p : Pending) (k : Choice) → Comes t previous (Some c) p → IsIn k (choices t rules (value_spot other) c next p)
       → IsLong k × IsIn (choice (c ∷ []) nothing) (choices t rules (value_spot form) c next p)
-  gives h n (half left) k m i = absurd (not_due t c next left d.dear_in m)
+  gives h n (half left) k m i = absurd (not_due t c next left d.costly_in m)
   gives h n p k m i = whole_gives h n p k (ready_of t previous (Some c) c p d.apart m) i
 
 -- ---- Ways
@@ -106,26 +106,26 @@ record HasWayBelow (g : Spelling) (units : List Unit) (s : State) (n : ℕ) : Ty
 
 -- whether a dear character gains here
 abbrev gains_here : List Entry → Where → Where → Option ℕ → ℕ → List ℕ → Bool
-gains_here t form other previous c v = stands form c && (not (stands other c) && is_dear t previous c (next_of v))
+gains_here t form other previous c v = stands form c && (not (stands other c) && is_costly t previous c (next_of v))
 
 module _ (g : Spelling) (table : IsTable g.table) (units : List Unit) (form other : Where) (f : Form form) (o : Form other) where
   -- The literal in place of a reference of four bytes or more, after which nothing is pending.
   here : (previous : Option ℕ) (c : ℕ) (v : List ℕ) (p : Pending) (b : List ℕ) → covers form other v ≡ true → Comes g.table previous (Some c) p → gains_here g.table form other previous c v ≡ true
       → Way (edges_of g) (value_and (c ∷ v) units) (state other p) b → HasWayBelow g (value_and (c ∷ v) units) (state form p) (length b + added other)
   here previous c v p b h m s (e, i, (rest, is, w)) =
-      let one = and_parts (stands form c) (not (stands other c) && is_dear g.table previous c (next_of v)) s in
-      let two = and_parts (not (stands other c)) (is_dear g.table previous c (next_of v)) one.1 in
+      let one = and_parts (stands form c) (not (stands other c) && is_costly g.table previous c (next_of v)) s in
+      let two = and_parts (not (stands other c)) (is_costly g.table previous c (next_of v)) one.1 in
       let k = value_edge g.table (character_rules g) other c (next_of v) p e (unopened other o) i in
-      let d = gives g.table table (character_rules g) form other previous c (next_of v) (dear_of g.table previous c (next_of v) two.1) one.0 (not_true (stands other c) two.0) p k.chosen m k.among in
-      let behind : HasWayOver (edges_of g) (value_and v units) (state other nothing) rest =
+      let d = gives g.table table (character_rules g) form other previous c (next_of v) (costly_of g.table previous c (next_of v) two.1) one.0 (not_true (stands other c) two.0) p k.chosen m k.among in
+      let after : HasWayOver (edges_of g) (value_and v units) (state other nothing) rest =
       forgetting g (value_and v units) (state other k.chosen.to) rest (may_forget_is other k.chosen.to (unopened other o) d.0.free) (subst (λ (x : Edge). Way (edges_of g) (value_and v units) x.to rest) k.is w) in
-      let more = over_value g v units form other f o h nothing behind.bytes behind.way in
+      let more = over_value g v units form other f o h nothing after.bytes after.way in
       let among = choice_in g.table (character_rules g) in_value form c (next_of v) p (choice (c ∷ []) nothing) (unopened form f) d.1 in
-      let whole = step_over g (character in_value c (next_of v)) (value_and v units) (state form p) (state form nothing) (c ∷ []) (length behind.bytes + added other) (length behind.bytes + added other + 1) among more (omega arith) in
+      let whole = step_over g (character in_value c (next_of v)) (value_and v units) (state form p) (state form nothing) (c ∷ []) (length after.bytes + added other) (length after.bytes + added other + 1) among more (omega arith) in
       record {
         bytes = whole.bytes;
         way = whole.way;
-        short = let a = whole.short in let q = behind.short in let four = d.0.four in omega (arith, a, q, four, ap length is, length-append e.bytes rest, ap edge_length k.is);
+        short = let a = whole.short in let q = after.short in let four = d.0.four in omega (arith, a, q, four, ap length is, length-append e.bytes rest, ap edge_length k.is);
       }
 
   -- the same choice in both forms, and a gain later on
@@ -146,20 +146,20 @@ module _ (g : Spelling) (table : IsTable g.table) (units : List Unit) (form othe
   gaining : (v : List ℕ) (previous : Option ℕ) (p : Pending) (b : List ℕ) → covers form other v ≡ true → Comes g.table previous (next_of v) p → gains_after g.table form other previous v ≡ true
       → Way (edges_of g) (value_and v units) (state other p) b → HasWayBelow g (value_and v units) (state form p) (length b + added other)
   gaining [] previous p b h m s w = absurd (cc)
-  gaining (c ∷ v) previous p b h m s w = by_test (gains_here g.table form other previous c v) refl s (λ a q r n u. gaining v (Some c) q r behind n a u)
+  gaining (c ∷ v) previous p b h m s w = by_test (gains_here g.table form other previous c v) refl s (λ a q r n u. gaining v (Some c) q r after n a u)
     where
-      behind : covers form other v ≡ true
-      behind = (and_parts (stands form c || not (stands other c)) (list_all (λ d. stands form d || not (stands other d)) v) h).1
+      after : covers form other v ≡ true
+      after = (and_parts (stands form c || not (stands other c)) (list_all (λ d. stands form d || not (stands other d)) v) h).1
 
       by_test : (a : Bool) → gains_here g.table form other previous c v ≡ a → (a || gains_after g.table form other (Some c) v) ≡ true
           → (gains_after g.table form other (Some c) v ≡ true → (q : Pending) (r : List ℕ) → Comes g.table (Some c) (next_of v) q → Way (edges_of g) (value_and v units) (state other q) r → HasWayBelow g (value_and v units) (state form q) (length r + added other))
           → HasWayBelow g (value_and (c ∷ v) units) (state form p) (length b + added other)
-      by_test true e k go_on = here previous c v p b behind m e w
+      by_test true e k go_on = here previous c v p b after m e w
       by_test false e k go_on = later_on previous c v p b h m w (go_on k)
 
 pub forms_are_bounded : FormsAreBounded
 forms_are_bounded g table v form other is_form is_other h units b w = by_gain (gains g.table form other v) refl
   where
-    by_gain : (a : Bool) → gains g.table form other v ≡ a → HasFormWay g (value_and v units) form b (added other) (spared a)
+    by_gain : (a : Bool) → gains g.table form other v ≡ a → HasFormWay g (value_and v units) form b (added other) (saved a)
     by_gain true e = let r = gaining g table units form other (form_of form is_form) (form_of other is_other) v None nothing b h tt e w in record { bytes = r.bytes; way = r.way; short = r.short }
     by_gain false e = let r = over_value g v units form other (form_of form is_form) (form_of other is_other) h nothing b w in record { bytes = r.bytes; way = r.way; short = let k = r.short in omega (arith, k) }

@@ -11,15 +11,15 @@ use Rattle.hm_graph_laws.specs.Ways.{Way}
 use Rattle.hm_refs.specs.Tables.{first, IsIn, IsTable}
 use Rattle.hm_spelling_spec.specs.Omission.{bars, end_falls, has_none, may_omit_end, start_falls}
 use Rattle.hm_spelling_spec.specs.Spellings as forms
-use Rattle.hm_spelling_spec.specs.Spellings.{Before, behind_end, behind_start, end_omitted, EndForm, EndSp, has_no_end_tag, is_self_closing, left_out_before, opening, other, self_closing, SpellsFrom, spot_of, StartForm, StartSp}
+use Rattle.hm_spelling_spec.specs.Spellings.{Before, after_end, after_start, end_omitted, EndForm, EndSp, has_no_end_tag, is_self_closing, left_out_before, opening, other, self_closing, SpellsFrom, spot_of, StartForm, StartSp}
 use Rattle.hm_spelling_spec.specs.Tags.{Spelling, SpellsStart}
-use Rattle.hm_graph_laws.specs.TagEdges.{behind_left_out, end_bytes, is_self_closed, start_bytes, unloosed}
+use Rattle.hm_graph_laws.specs.TagEdges.{after_left_out, end_bytes, is_self_closed, start_bytes, unloosed}
 use Rattle.hm_graph_laws.specs.Edges.{edge_to}
 use Rattle.hm_graph_laws.specs.States.{Where, outside, loose, self_closed, Pending, nothing, State, first_state, state}
 use Rattle.hm_graph_laws.specs.Steps.{keeps}
 use Rattle.hm_graph_laws.specs.Units.{doctype_bytes, end_tag, is_firm, is_loose_end, may_close_itself, Previous, start_tag, text_units, Unit, units_from}
 use Rattle.hm_optimality_laws.specs.SpellingLaws.{HasWay}
-use Rattle.hm_optimality_laws.proofs.Between.{Agrees, behind_text, end_in_text, end_left, end_loosened, end_void, fresh, start_closed, start_left, text_outside}
+use Rattle.hm_optimality_laws.proofs.Between.{Agrees, after_text, end_in_text, end_left, end_loosened, end_void, fresh, start_closed, start_left, text_outside}
 use Rattle.hm_optimality_laws.proofs.Cuts.{joined}
 use Rattle.hm_optimality_laws.proofs.Markup.{leaves_end, leaves_start}
 use Rattle.hm_optimality_laws.proofs.Order.{element, EndFits, InOrder, StartFits}
@@ -78,7 +78,7 @@ module _ (g : Spelling) (table : IsTable g.table) where
       at_outside : Agrees g.table before previous path outside p (text c raw ∷ w) → Found g previous path (state outside p) (text c raw ∷ w) b
       at_outside a =
           let r = text_way g table before previous path c raw w p piece rest a t (subst (λ x. keeps g.table (spot_of path) p x ≡ true) is k) in
-          let m = more other (Some (text c raw)) path r.to.at r.to.pending rest (behind_text g.table path w c raw r.to.at r.to.pending r.there r.fits f.alone) o s r.kept in
+          let m = more other (Some (text c raw)) path r.to.at r.to.pending rest (after_text g.table path w c raw r.to.at r.to.pending r.there r.fits f.alone) o s r.kept in
           record {
             bytes = r.bytes ++ m.bytes;
             way = joined (edges_of g) (text_units previous path c raw) (units_from g.rules (Some (text c raw)) path w) (state outside p) r.to r.bytes m.bytes r.way m.way;
@@ -93,7 +93,7 @@ module _ (g : Spelling) (table : IsTable g.table) where
 
   start_omitted : (w : List Event) → More g w → (n : List ℕ) (foreign : Bool) (attributes : List Attribute) (before : Before) (previous : Previous) (path : List Element) (at : Where) (p : Pending) (b : List ℕ)
       → foreign ≡ false → attributes ≡ [] → g.rules.omit ≡ true → bars (left_out_before before) n ≡ false → start_falls g.rules.frame n w ≡ true
-      → Agrees g.table before previous path at p (start n foreign attributes ∷ w) → StartFits n foreign attributes path → InOrder (element n foreign ∷ path) w → SpellsFrom g (behind_start foreign forms.omitted) (element n foreign ∷ path) w b → keeps g.table (spot_of path) p b ≡ true
+      → Agrees g.table before previous path at p (start n foreign attributes ∷ w) → StartFits n foreign attributes path → InOrder (element n foreign ∷ path) w → SpellsFrom g (after_start foreign forms.omitted) (element n foreign ∷ path) w b → keeps g.table (spot_of path) p b ≡ true
       → Found g previous path (state at p) (start n foreign attributes ∷ w) b
   start_omitted w more n true attributes before previous path at p b kind none omits free falls a f o s k = absurd (cc)
   start_omitted w more n false (x ∷ attributes) before previous path at p b kind none omits free falls a f o s k = absurd (cc)
@@ -138,17 +138,17 @@ module _ (g : Spelling) (table : IsTable g.table) where
         short = omega (arith, t.short, m.short, ap length is, length-append t.bytes m.bytes, length-append piece rest);
       }
 
-  written_behind : (foreign : Bool) → behind_start foreign forms.written ≡ opening
-  written_behind true = refl
-  written_behind false = refl
+  written_after : (foreign : Bool) → after_start foreign forms.written ≡ opening
+  written_after true = refl
+  written_after false = refl
 
   start_case : (w : List Event) → More g w → (n : List ℕ) (foreign : Bool) (attributes : List Attribute) → More g (start n foreign attributes ∷ w)
   start_case w more n foreign attributes before previous path at p b a (f, o) (forms.omitted, piece, rest, is, s, more_spells) k =
       let l = leaves_start g.rules (left_out_before before) n foreign attributes w s.1 in
       let same : b ≡ rest = is ∙ ap (λ x. x ++ rest) s.0 in
-      start_omitted w more n foreign attributes before previous path at p b l.kind (no_attributes attributes l.bare) l.omits l.free l.falls a f o (subst (λ x. SpellsFrom g (behind_start foreign forms.omitted) (element n foreign ∷ path) w x) (sym same) more_spells) k
+      start_omitted w more n foreign attributes before previous path at p b l.kind (no_attributes attributes l.bare) l.omits l.free l.falls a f o (subst (λ x. SpellsFrom g (after_start foreign forms.omitted) (element n foreign ∷ path) w x) (sym same) more_spells) k
   start_case w more n foreign attributes before previous path at p b a (f, o) (forms.written, piece, rest, is, s, more_spells) k =
-      start_written w more n foreign attributes false before previous path at p b piece rest o is s (subst (λ x. SpellsFrom g x (element n foreign ∷ path) w rest) (written_behind foreign) more_spells)
+      start_written w more n foreign attributes false before previous path at p b piece rest o is s (subst (λ x. SpellsFrom g x (element n foreign ∷ path) w rest) (written_after foreign) more_spells)
   start_case w more n true attributes before previous path at p b a (f, o) (forms.slashed, piece, rest, is, (e, s), more_spells) k = start_slashed w more n attributes before previous path at p b piece rest o e is s more_spells
   start_case w more n false attributes before previous path at p b a (f, o) (forms.slashed, piece, rest, is, (e, s), more_spells) k = start_written w more n false attributes true before previous path at p b piece rest o is s more_spells
 
@@ -182,17 +182,17 @@ module _ (g : Spelling) (table : IsTable g.table) where
       (through (end_tag n (may_omit_end g.rules n foreign (outer path) w) (is_loose_end n)) (units_from g.rules (Some (end n foreign)) (outer path) w) (state at p) first_state [] m.bytes b [] b (into_closed n (may_omit_end g.rules n foreign (outer path) w) (is_loose_end n) (state at p) c) (omega arith) refl m.way m.short)
 
   -- the way after an end tag that is left out
-  record Behind (n : List ℕ) (path : List Element) (to : State) (w : List Event) (b : List ℕ) : Type 0 where
+  record FoundAfter (n : List ℕ) (path : List Element) (to : State) (w : List Event) (b : List ℕ) : Type 0 where
     bytes : List ℕ
     way : Way (edges_of g) (units_from g.rules (Some (end n false)) (outer path) w) to bytes
     short : length bytes ≤ length b
 
-  end_behind : (w : List Event) → More g w → (n : List ℕ) (before : Before) (previous : Previous) (path : List Element) (at : Where) (p : Pending) (b : List ℕ) → is_self_closed at ≡ false → end_falls n (current (outer path)) w ≡ true
-      → Agrees g.table before previous path at p (end n false ∷ w) → EndFits n false path → InOrder (outer path) w → SpellsFrom g (end_omitted n) (outer path) w b → keeps g.table (spot_of path) p b ≡ true → (l : Bool) → is_loose_end n ≡ l → Behind n path (behind_left_out l (state at p)) w b
-  end_behind w more n before previous path at p b c falls a f o s k true l =
+  end_after : (w : List Event) → More g w → (n : List ℕ) (before : Before) (previous : Previous) (path : List Element) (at : Where) (p : Pending) (b : List ℕ) → is_self_closed at ≡ false → end_falls n (current (outer path)) w ≡ true
+      → Agrees g.table before previous path at p (end n false ∷ w) → EndFits n false path → InOrder (outer path) w → SpellsFrom g (end_omitted n) (outer path) w b → keeps g.table (spot_of path) p b ≡ true → (l : Bool) → is_loose_end n ≡ l → FoundAfter n path (after_left_out l (state at p)) w b
+  end_after w more n before previous path at p b c falls a f o s k true l =
       let m = more (end_omitted n) (Some (end n false)) (outer path) loose nothing b (end_loosened g.table path n w f l falls) o s refl in
       record { bytes = m.bytes; way = m.way; short = m.short }
-  end_behind w more n before previous path at p b c falls a f o s k false l =
+  end_after w more n before previous path at p b c falls a f o s k false l =
       let m = more (end_omitted n) (Some (end n false)) (outer path) at p b (end_left g.table before previous path at p n w f l c falls a) o s (same_kept g.table (outer path) path p b f.placed.around (end_in_text n path f (end_open n (current (outer path)) w falls)) k) in
       record { bytes = m.bytes; way = m.way; short = m.short }
 
@@ -200,9 +200,9 @@ module _ (g : Spelling) (table : IsTable g.table) where
       → Agrees g.table before previous path at p (end n foreign ∷ w) → EndFits n foreign path → InOrder (outer path) w → SpellsFrom g (end_omitted n) (outer path) w b → keeps g.table (spot_of path) p b ≡ true → Found g previous path (state at p) (end n foreign ∷ w) b
   end_omits w more n true before previous path at p b v c may a f o s k = absurd (let l = (leaves_end g.rules n true (outer path) w may).kind in cc)
   end_omits w more n false before previous path at p b v c may a f o s k =
-      let m = end_behind w more n before previous path at p b c (leaves_end g.rules n false (outer path) w may).falls a f o s k (is_loose_end n) refl in
+      let m = end_after w more n before previous path at p b c (leaves_end g.rules n false (outer path) w may).falls a f o s k (is_loose_end n) refl in
       with_end w n false previous path (state at p) b v
-      (through (end_tag n (may_omit_end g.rules n false (outer path) w) (is_loose_end n)) (units_from g.rules (Some (end n false)) (outer path) w) (state at p) (behind_left_out (is_loose_end n) (state at p)) [] m.bytes b [] b
+      (through (end_tag n (may_omit_end g.rules n false (outer path) w) (is_loose_end n)) (units_from g.rules (Some (end n false)) (outer path) w) (state at p) (after_left_out (is_loose_end n) (state at p)) [] m.bytes b [] b
       (into_end_left_out n (may_omit_end g.rules n false (outer path) w) (is_loose_end n) (state at p) c may) (omega arith) refl m.way m.short)
 
   end_written : (w : List Event) → More g w → (n : List ℕ) (foreign : Bool) (before : Before) (previous : Previous) (path : List Element) (at : Where) (p : Pending) (b piece rest : List ℕ) → not foreign && is_void n ≡ false → is_self_closed at ≡ false
@@ -224,7 +224,7 @@ module _ (g : Spelling) (table : IsTable g.table) where
       same : piece ≡ [] → b ≡ rest
       same e = is ∙ ap (λ x. x ++ rest) e
 
-      by_form : (form : EndForm) → EndSp g before n foreign (outer path) w form piece → SpellsFrom g (behind_end n form) (outer path) w rest → (v : Bool) → not foreign && is_void n ≡ v → (c : Bool) → is_self_closed at ≡ c → Found g previous path (state at p) (end n foreign ∷ w) b
+      by_form : (form : EndForm) → EndSp g before n foreign (outer path) w form piece → SpellsFrom g (after_end n form) (outer path) w rest → (v : Bool) → not foreign && is_void n ≡ v → (c : Bool) → is_self_closed at ≡ c → Found g previous path (state at p) (end n foreign ∷ w) b
       by_form forms.absent (e, h) m true v c hc = end_void_way w more n foreign before previous path at p b v a f o (subst (λ x. SpellsFrom g other (outer path) w x) (sym (same e)) m) k
       by_form forms.absent (e, h) m false v true hc = end_self w more n foreign before previous path at p b v hc o (subst (λ x. SpellsFrom g other (outer path) w x) (sym (same e)) m)
       by_form forms.absent (e, h) m false v false hc = absurd (both_ways (has_no_end_tag before n foreign) (rw (a.self, hc, v) refl) h)

@@ -5,8 +5,8 @@ use Rattle.std.proofs.lemmas.Bool.{eqb-true}
 use Rattle.hm_refs.specs.Tables.{IsIn, first, later}
 use Rattle.hm_graph_laws.proofs.LeastPrices.{IsFirst, first_bounds, first_of_best, least_number, least_reached, over_is, same_price_self}
 use Rattle.hm_graph_laws.specs.Ways.{Edges, lesser, over, best, least, same_price, first_edge, along, first_way}
-use Rattle.hm_optimality_laws.specs.SparseLaws.{HasWayInstead, HaveValues, IsFollowed, LosesNothing, OutdoneEdgesAreNeedless, PricesBound, Replaces, SameFirstWay, SameLeast}
-use Rattle.hm_optimality_laws.specs.Outdone.{Dominance, is_outdone, kept_behind, kept_edges, sparse}
+use Rattle.hm_optimality_laws.specs.SparseLaws.{HasWayInstead, HaveValues, IsFollowed, LosesNothing, DominatedEdgesAreNeedless, PricesBound, Replaces, SameFirstWay, SameLeast}
+use Rattle.hm_optimality_laws.specs.Dominated.{Dominance, is_dominated, kept_after, kept_edges, sparse}
 use Rattle.hm_graph_laws.specs.Edges.{Edge, edge_length}
 use Rattle.hm_graph_laws.specs.States.{State, first_state}
 use Rattle.hm_graph_laws.specs.Units.{Unit}
@@ -63,7 +63,7 @@ price f e = over (edge_length e) (f e.to)
 -- The price over an edge that dominates another is no greater where it stands before it, and less where it stands after it.
 pub record Favours (d : Dominance) (unit : Unit) (f : State → Option ℕ) : Type 0 where
   pub in_front : (e x : Edge) → d.in_front unit e x ≡ true → (n : ℕ) → AtLeast n (price f x) → AtLeast n (price f e)
-  pub behind : (e x : Edge) → d.behind unit e x ≡ true → (n : ℕ) → AtLeast n (price f x) → AtLeast (suc n) (price f e)
+  pub after : (e x : Edge) → d.after unit e x ≡ true → (n : ℕ) → AtLeast n (price f x) → AtLeast (suc n) (price f e)
 
 price_in : (f : State → Option ℕ) (n : ℕ) (e : Edge) (es : List Edge) → AtLeast n (best f es) → IsIn e es → AtLeast n (price f e)
 price_in f n e es h (first zs) = (lesser_parts n (price f e) (best f zs) h).0
@@ -92,21 +92,21 @@ not_in_front d unit f favours n e before is more = none_passes (d.in_front unit 
     fails k = let z : AtLeast (suc n) (Some n) = subst (AtLeast (suc n)) is k in omega (arith, z)
 
 -- nor by a later one
-not_behind : (d : Dominance) (unit : Unit) (f : State → Option ℕ) → Favours d unit f → (n : ℕ) (e : Edge) (es : List Edge) → price f e ≡ Some n → AtLeast n (best f es) → list_any (d.behind unit e) es ≡ false
-not_behind d unit f favours n e es is least = none_passes (d.behind unit e) es (λ x i h. fails (favours.behind e x h n (price_in f n x es least i)))
+not_after : (d : Dominance) (unit : Unit) (f : State → Option ℕ) → Favours d unit f → (n : ℕ) (e : Edge) (es : List Edge) → price f e ≡ Some n → AtLeast n (best f es) → list_any (d.after unit e) es ≡ false
+not_after d unit f favours n e es is least = none_passes (d.after unit e) es (λ x i h. fails (favours.after e x h n (price_in f n x es least i)))
   where
     fails : AtLeast (suc n) (price f e) → ⊥
     fails k = let z : AtLeast (suc n) (Some n) = subst (AtLeast (suc n)) is k in omega (arith, z)
 
 -- ---- The edges that are kept
 
-kept_at_least : (d : Dominance) (unit : Unit) (f : State → Option ℕ) (n : ℕ) (before es : List Edge) → AtLeast n (best f es) → AtLeast n (best f (kept_behind d unit before es))
+kept_at_least : (d : Dominance) (unit : Unit) (f : State → Option ℕ) (n : ℕ) (before es : List Edge) → AtLeast n (best f es) → AtLeast n (best f (kept_after d unit before es))
 kept_at_least d unit f n before [] h = h
-kept_at_least d unit f n before (e ∷ es) h = by_test (is_outdone d unit before e es) (kept_at_least d unit f n (e ∷ before) es (lesser_parts n (price f e) (best f es) h).1)
+kept_at_least d unit f n before (e ∷ es) h = by_test (is_dominated d unit before e es) (kept_at_least d unit f n (e ∷ before) es (lesser_parts n (price f e) (best f es) h).1)
   where
-    by_test : (b : Bool) → AtLeast n (best f (kept_behind d unit (e ∷ before) es)) → AtLeast n (best f (cond b (kept_behind d unit (e ∷ before) es) (e ∷ kept_behind d unit (e ∷ before) es)))
+    by_test : (b : Bool) → AtLeast n (best f (kept_after d unit (e ∷ before) es)) → AtLeast n (best f (cond b (kept_after d unit (e ∷ before) es) (e ∷ kept_after d unit (e ∷ before) es)))
     by_test true k = k
-    by_test false k = of_parts n (price f e) (best f (kept_behind d unit (e ∷ before) es)) (lesser_parts n (price f e) (best f es) h).0 k
+    by_test false k = of_parts n (price f e) (best f (kept_after d unit (e ∷ before) es)) (lesser_parts n (price f e) (best f es) h).0 k
 
 -- the least price is the same, and comes over the same first edge
 record SameChoice (f : State → Option ℕ) (n : ℕ) (kept es : List Edge) : Type 0 where
@@ -115,20 +115,20 @@ record SameChoice (f : State → Option ℕ) (n : ℕ) (kept es : List Edge) : T
 
 -- the first edge over which the least price comes is kept
 here : (d : Dominance) (unit : Unit) (f : State → Option ℕ) → Favours d unit f → (n : ℕ) (e : Edge) (before es : List Edge) → price f e ≡ Some n → AtLeast n (best f es) → ((x : Edge) → IsIn x before → AtLeast (suc n) (price f x))
-    → SameChoice f n (kept_behind d unit before (e ∷ es)) (e ∷ es)
+    → SameChoice f n (kept_after d unit before (e ∷ es)) (e ∷ es)
 here d unit f favours n e before es is least more =
-    let kept : kept_behind d unit before (e ∷ es) ≡ e ∷ kept_behind d unit (e ∷ before) es = rw (not_in_front d unit f favours n e before is more, not_behind d unit f favours n e es is least) refl in
+    let kept : kept_after d unit before (e ∷ es) ≡ e ∷ kept_after d unit (e ∷ before) es = rw (not_in_front d unit f favours n e before is more, not_after d unit f favours n e es is least) refl in
     let same : same_price (price f e) (Some n) ≡ true = rw is (same_price_self (Some n)) in
     subst (λ ks. SameChoice f n ks (e ∷ es)) (sym kept)
-    (record { least = lesser_first n (price f e) (best f (kept_behind d unit (e ∷ before) es)) is (kept_at_least d unit f n (e ∷ before) es least); edge = rw same refl })
+    (record { least = lesser_first n (price f e) (best f (kept_after d unit (e ∷ before) es)) is (kept_at_least d unit f n (e ∷ before) es least); edge = rw same refl })
 
 -- where it isn't the first edge, the choice is made among the later ones
-behind : (f : State → Option ℕ) (n : ℕ) (e : Edge) (b : Bool) (kept es : List Edge) → same_price (price f e) (Some n) ≡ false → AtLeast (suc n) (price f e) → SameChoice f n kept es → SameChoice f n (cond b kept (e ∷ kept)) (e ∷ es)
-behind f n e true kept es differs more c = record { least = c.least; edge = rw differs c.edge }
-behind f n e false kept es differs more c = record { least = lesser_second n (price f e) (best f kept) more c.least; edge = rw differs c.edge }
+after : (f : State → Option ℕ) (n : ℕ) (e : Edge) (b : Bool) (kept es : List Edge) → same_price (price f e) (Some n) ≡ false → AtLeast (suc n) (price f e) → SameChoice f n kept es → SameChoice f n (cond b kept (e ∷ kept)) (e ∷ es)
+after f n e true kept es differs more c = record { least = c.least; edge = rw differs c.edge }
+after f n e false kept es differs more c = record { least = lesser_second n (price f e) (best f kept) more c.least; edge = rw differs c.edge }
 
 kept_choice : (d : Dominance) (unit : Unit) (f : State → Option ℕ) → Favours d unit f → (n : ℕ) (before es : List Edge) → best f es ≡ Some n → ((x : Edge) → IsIn x before → AtLeast (suc n) (price f x))
-    → SameChoice f n (kept_behind d unit before es) es
+    → SameChoice f n (kept_after d unit before es) es
 kept_choice d unit f favours n before [] h more = absurd (cc)
 kept_choice d unit f favours n before (e ∷ es) h more = by_test (same_price (price f e) (Some n)) refl (λ k m. kept_choice d unit f favours n (e ∷ before) es k m)
   where
@@ -137,12 +137,12 @@ kept_choice d unit f favours n before (e ∷ es) h more = by_test (same_price (p
     with_first k x (later y zs i) = more x i
 
     by_test : (b : Bool) → same_price (price f e) (Some n) ≡ b
-        → (best f es ≡ Some n → ((x : Edge) → IsIn x (e ∷ before) → AtLeast (suc n) (price f x)) → SameChoice f n (kept_behind d unit (e ∷ before) es) es)
-        → SameChoice f n (kept_behind d unit before (e ∷ es)) (e ∷ es)
+        → (best f es ≡ Some n → ((x : Edge) → IsIn x (e ∷ before) → AtLeast (suc n) (price f x)) → SameChoice f n (kept_after d unit (e ∷ before) es) es)
+        → SameChoice f n (kept_after d unit before (e ∷ es)) (e ∷ es)
     by_test true is later_ones = here d unit f favours n e before es (same_price_is (price f e) (Some n) is) (lesser_parts n (price f e) (best f es) (number_at_least n (best f (e ∷ es)) h)).1 more
     by_test false differs later_ones =
         let g = greater n (price f e) (best f es) differs h in
-        behind f n e (is_outdone d unit before e es) (kept_behind d unit (e ∷ before) es) es differs g.0 (later_ones g.1 (with_first g.0))
+        after f n e (is_dominated d unit before e es) (kept_after d unit (e ∷ before) es) es differs g.0 (later_ones g.1 (with_first g.0))
 
 edges_choice : (d : Dominance) (unit : Unit) (f : State → Option ℕ) → Favours d unit f → (n : ℕ) (es : List Edge) → best f es ≡ Some n → SameChoice f n (kept_edges d unit es) es
 edges_choice d unit f favours n es h = kept_choice d unit f favours n [] es h (λ x i. elim i [ ])
@@ -177,7 +177,7 @@ module _ (d : Dominance) (es : Edges) (loses : LosesNothing d es) where
   favours_least : (unit : Unit) (units : List Unit) → IsFollowed unit units → Favours d unit (least es units)
   favours_least unit units follows = record {
     in_front = λ e x h n k. no_greater es units 0 e x ((loses unit units follows e x).0 h) n n (omega arith) k;
-    behind = λ e x h n k. no_greater es units 1 e x ((loses unit units follows e x).1 h) (suc n) n (omega arith) k;
+    after = λ e x h n k. no_greater es units 1 e x ((loses unit units follows e x).1 h) (suc n) n (omega arith) k;
   }
 
   same_least : SameLeast d es
@@ -212,5 +212,5 @@ module _ (d : Dominance) (es : Edges) (loses : LosesNothing d es) where
       let bound : n ≤ length (first_way (sparse d es) units first_state) = first_bounds (sparse d es) units prices n (first_way (sparse d es) units first_state) feasible is best_way in
       omega (arith, bound, long, short)
 
-pub needless : OutdoneEdgesAreNeedless
+pub needless : DominatedEdgesAreNeedless
 needless d es loses = (same_least d es loses, (same_first_way d es loses, prices_bound d es loses))

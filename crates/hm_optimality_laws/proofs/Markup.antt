@@ -3,14 +3,14 @@ use Rattle.std.proofs.Common.{◌≡◌, ℕ, Bool, true, false, not, ◌&&◌, 
 use Rattle.std.proofs.lemmas.Bool.{and_parts, both_ways, not-true}
 use Rattle.hm_base.specs.Walks.{Attribute, Event, doctype, start, text, comment, end, Element}
 use Rattle.hm_elements.specs.Names.{table}
-use Rattle.hm_elements.specs.Omission.{start_goes_before}
+use Rattle.hm_elements.specs.Omission.{start_tag_optional_before}
 use Rattle.hm_elements.specs.Paths.{current, outer}
 use Rattle.hm_elements.specs.Tables.{is_void}
 use Rattle.hm_refs.specs.Names.{Entry}
 use Rattle.hm_refs.specs.Tables.{IsTable}
 use Rattle.hm_spelling_spec.specs.Omission.{bars, begins_child_of, end_falls, has_none, LeftOut, may_omit_end, may_omit_start, start_falls}
 use Rattle.hm_spelling_spec.specs.Spellings as forms
-use Rattle.hm_spelling_spec.specs.Spellings.{Before, behind_end, behind_start, end_omitted, EndForm, EndSp, left_out_before, SpellsFrom, spot_of, StartForm, StartSp}
+use Rattle.hm_spelling_spec.specs.Spellings.{Before, after_end, after_start, end_omitted, EndForm, EndSp, left_out_before, SpellsFrom, spot_of, StartForm, StartSp}
 use Rattle.hm_base.specs.declared.plain.SpellRules.{SpellRules}
 use Rattle.hm_spelling_spec.specs.Tags.{Spelling}
 use Rattle.hm_graph_laws.specs.States.{Pending}
@@ -76,19 +76,19 @@ child_markup g before path m foreign attributes w b stays (forms.omitted, piece,
 child_markup g before path m foreign attributes w b stays (forms.written, piece, rest, is, s, more) = markup_front b piece rest is (_, s.is)
 child_markup g before path m foreign attributes w b stays (forms.slashed, piece, rest, is, s, more) = markup_front b piece rest is (_, s.1.is)
 
-behind_child : (g : Spelling) (before : Before) (path : List Element) (n : List ℕ) (w : List Event) (b : List ℕ) → begins_child_of n w ≡ true → SpellsFrom g before path w b → IsMarkup b
-behind_child g before path n [] b h s = absurd (cc)
-behind_child g before path n (doctype legacy ∷ w) b h s = absurd (cc)
-behind_child g before path n (text x raw ∷ w) b h s = absurd (cc)
-behind_child g before path n (comment x ∷ w) b h s = absurd (cc)
-behind_child g before path n (end m foreign ∷ w) b h s = absurd (cc)
-behind_child g before path n (start m foreign attributes ∷ w) b h s = child_markup g before path m foreign attributes w b (child_stays g.rules.frame n m w (and_parts (not foreign) (start_goes_before n m) h).1) s
+after_child : (g : Spelling) (before : Before) (path : List Element) (n : List ℕ) (w : List Event) (b : List ℕ) → begins_child_of n w ≡ true → SpellsFrom g before path w b → IsMarkup b
+after_child g before path n [] b h s = absurd (cc)
+after_child g before path n (doctype legacy ∷ w) b h s = absurd (cc)
+after_child g before path n (text x raw ∷ w) b h s = absurd (cc)
+after_child g before path n (comment x ∷ w) b h s = absurd (cc)
+after_child g before path n (end m foreign ∷ w) b h s = absurd (cc)
+after_child g before path n (start m foreign attributes ∷ w) b h s = child_markup g before path m foreign attributes w b (child_stays g.rules.frame n m w (and_parts (not foreign) (start_tag_optional_before n m) h).1) s
 
 start_markup : (g : Spelling) (before : Before) (path : List Element) (n : List ℕ) (foreign : Bool) (attributes : List Attribute) (w : List Event) (b : List ℕ) → current path ≡ table → StartFits n foreign attributes path
     → SpellsFrom g before path (start n foreign attributes ∷ w) b → IsMarkup b
 start_markup g before path n foreign attributes w b here f (forms.omitted, piece, rest, is, s, more) =
     let l = leaves_start g.rules (left_out_before before) n foreign attributes w s.1 in
-    subst (λ x. IsMarkup x) (sym (is ∙ ap (λ x. x ++ rest) s.0)) (behind_child g (behind_start foreign forms.omitted) (element n foreign ∷ path) n w rest (before_child g.rules.frame n w (f.no_root here l.kind) l.falls) more)
+    subst (λ x. IsMarkup x) (sym (is ∙ ap (λ x. x ++ rest) s.0)) (after_child g (after_start foreign forms.omitted) (element n foreign ∷ path) n w rest (before_child g.rules.frame n w (f.no_root here l.kind) l.falls) more)
 start_markup g before path n foreign attributes w b here f (forms.written, piece, rest, is, s, more) = markup_front b piece rest is (_, s.is)
 start_markup g before path n foreign attributes w b here f (forms.slashed, piece, rest, is, s, more) = markup_front b piece rest is (_, s.1.is)
 

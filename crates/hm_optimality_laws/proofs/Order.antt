@@ -3,13 +3,13 @@ use Rattle.std.proofs.Common.{◌≡◌, ℕ, Bool, true, false, cond, not, List
 use Rattle.std.proofs.lemmas.Bool.{and_parts, both_ways, not-true, or_cases}
 use Rattle.hm_graph_laws.specs.AttributeLaws.{AreLow}
 use Rattle.hm_base.specs.Bytes.{lower}
-use Rattle.hm_base.specs.Walks.{Attribute, Event, doctype, start, text, comment, end, Element, path_behind, begins_text, is_same_element, ends_match}
+use Rattle.hm_base.specs.Walks.{Attribute, Event, doctype, start, text, comment, end, Element, path_after_event, begins_text, is_same_element, ends_match}
 use Rattle.hm_elements.specs.Names.{words, is_among, html, head, body, table, colgroup}
 use Rattle.hm_elements.specs.Paths.{current, current_name, is_in_raw, is_in_text, outer, stands_on}
 use Rattle.hm_elements.specs.Places.{ElementAllowed}
 use Rattle.hm_elements.specs.Settled.{Frame, Settled, SettledFrom, Top, all_there, go_on, has_body, has_frame, has_top, is_html, is_text_in_place, next_frame, next_top, no_body, no_doctype, no_head, no_html, no_zero_in_values, starts_root}
 use Rattle.hm_elements.specs.Tables.{is_root, is_section, sections}
-use Rattle.hm_elements.proofs.Chain.{behind_event, here, html_is, same_element}
+use Rattle.hm_elements.proofs.Chain.{after_event, here, html_is, same_element}
 use Rattle.hm_elements.proofs.Events.{EventStands, attributes_allowed, start_allowed, text_allowed}
 use Rattle.hm_elements.proofs.NameFacts.{svg_name_is_tag_name}
 use Rattle.hm_elements.proofs.TableFacts.{stands_parent}
@@ -59,14 +59,14 @@ went : {A : Type 0} (o : Option A) (more : A → Bool) → go_on o more ≡ true
 went None more h = absurd (cc)
 went (Some a) more h = (a, refl, h)
 
-top_on : (t : Top) (path : List Element) (e : Event) (w : List Event) → has_top t path (e ∷ w) ≡ true → (t' : Top) × (has_top t' (path_behind path e) w ≡ true)
-top_on t [] e w h = let (t', is, k) = went (next_top t e) (λ next. has_top next (path_behind [] e) w) h in (t', k)
-top_on t (m ∷ path) e w h = (t, (and_parts _ (has_top t (path_behind (m ∷ path) e) w) h).1)
+top_on : (t : Top) (path : List Element) (e : Event) (w : List Event) → has_top t path (e ∷ w) ≡ true → (t' : Top) × (has_top t' (path_after_event path e) w ≡ true)
+top_on t [] e w h = let (t', is, k) = went (next_top t e) (λ next. has_top next (path_after_event [] e) w) h in (t', k)
+top_on t (m ∷ path) e w h = (t, (and_parts _ (has_top t (path_after_event (m ∷ path) e) w) h).1)
 
-frame_on : (f : Frame) (path : List Element) (e : Event) (w : List Event) → has_frame f path (e ∷ w) ≡ true → (f' : Frame) × (has_frame f' (path_behind path e) w ≡ true)
-frame_on f [] e w h = (no_head, (and_parts _ (has_frame no_head (path_behind [] e) w) h).1)
-frame_on f (m ∷ []) e w h = let (f', is, k) = went (next_frame f e) (λ next. has_frame next (path_behind (m ∷ []) e) w) h in (f', k)
-frame_on f (m ∷ k ∷ path) e w h = (f, (and_parts _ (has_frame f (path_behind (m ∷ k ∷ path) e) w) h).1)
+frame_on : (f : Frame) (path : List Element) (e : Event) (w : List Event) → has_frame f path (e ∷ w) ≡ true → (f' : Frame) × (has_frame f' (path_after_event path e) w ≡ true)
+frame_on f [] e w h = (no_head, (and_parts _ (has_frame no_head (path_after_event [] e) w) h).1)
+frame_on f (m ∷ []) e w h = let (f', is, k) = went (next_frame f e) (λ next. has_frame next (path_after_event (m ∷ []) e) w) h in (f', k)
+frame_on f (m ∷ k ∷ path) e w h = (f, (and_parts _ (has_frame f (path_after_event (m ∷ k ∷ path) e) w) h).1)
 
 -- ---- starts
 
@@ -127,7 +127,7 @@ no_root_here n false attributes h e = h
 start_fits : (t : Top) (f : Frame) (path : List Element) (n : List ℕ) (foreign : Bool) (attributes : List Attribute) (w : List Event) → PathFits path → SettledFrom t f path (start n foreign attributes ∷ w) → StartFits n foreign attributes path
 start_fits t f [] n foreign attributes w fits s =
     let st = here t f [] (start n foreign attributes) w s in
-    let (t', is, k) = went (next_top t (start n foreign attributes)) (λ next. has_top next (path_behind [] (start n foreign attributes)) w) s.top in
+    let (t', is, k) = went (next_top t (start n foreign attributes)) (λ next. has_top next (path_after_event [] (start n foreign attributes)) w) s.top in
     record {
       placed = root_placed html n foreign [] frame_plain.0 frame_plain.3 (outside_text [] n foreign attributes w st) (first_is_html t t' n foreign attributes is);
       names = names_low attributes (attributes_allowed [] n foreign attributes w st).names;
@@ -135,7 +135,7 @@ start_fits t f [] n foreign attributes w fits s =
     }
 start_fits t f (m ∷ []) n foreign attributes w (placed, first, more) s =
     let st = here t f (m ∷ []) (start n foreign attributes) w s in
-    let (f', is, k) = went (next_frame f (start n foreign attributes)) (λ next. has_frame next (path_behind (m ∷ []) (start n foreign attributes)) w) s.frame in
+    let (f', is, k) = went (next_frame f (start n foreign attributes)) (λ next. has_frame next (path_after_event (m ∷ []) (start n foreign attributes)) w) s.frame in
     record {
       placed = elim (second_is_root f f' n foreign attributes is) [
         | inl h ↦ root_placed head n foreign (m ∷ []) frame_plain.1 frame_plain.4 (outside_text (m ∷ []) n foreign attributes w st) h
@@ -146,7 +146,7 @@ start_fits t f (m ∷ []) n foreign attributes w (placed, first, more) s =
     }
 start_fits t f (m ∷ k ∷ path) n foreign attributes w fits s =
     let st = here t f (m ∷ k ∷ path) (start n foreign attributes) w s in
-    let two = and_parts (not (starts_root (start n foreign attributes))) (has_frame f (path_behind (m ∷ k ∷ path) (start n foreign attributes)) w) s.frame in
+    let two = and_parts (not (starts_root (start n foreign attributes))) (has_frame f (path_after_event (m ∷ k ∷ path) (start n foreign attributes)) w) s.frame in
     let other = not-true (starts_root (start n foreign attributes)) two.0 in
     let a = start_allowed (m ∷ k ∷ path) n foreign attributes w other st in
     record {
@@ -157,7 +157,7 @@ start_fits t f (m ∷ k ∷ path) n foreign attributes w fits s =
 
 first_html : (t : Top) (f : Frame) (path : List Element) (n : List ℕ) (foreign : Bool) (attributes : List Attribute) (w : List Event) → SettledFrom t f path (start n foreign attributes ∷ w) → path ≡ [] → n ≡ html
 first_html t f [] n foreign attributes w s e =
-    let (t', is, k) = went (next_top t (start n foreign attributes)) (λ next. has_top next (path_behind [] (start n foreign attributes)) w) s.top in
+    let (t', is, k) = went (next_top t (start n foreign attributes)) (λ next. has_top next (path_after_event [] (start n foreign attributes)) w) s.top in
     (html_is html n foreign (first_is_html t t' n foreign attributes is)).0
 first_html t f (m ∷ path) n foreign attributes w s e = absurd (cc)
 
@@ -175,28 +175,28 @@ in_order [] t f path fits s = tt
 in_order (doctype legacy ∷ w) t f path fits s =
     let (t', top) = top_on t path (doctype legacy) w s.top in
     let (f', frame) = frame_on f path (doctype legacy) w s.frame in
-    in_order w t' f' path fits (behind_event t f path (doctype legacy) w s t' f' top frame)
+    in_order w t' f' path fits (after_event t f path (doctype legacy) w s t' f' top frame)
 in_order (comment c ∷ w) t f path fits s =
     let (t', top) = top_on t path (comment c) w s.top in
     let (f', frame) = frame_on f path (comment c) w s.frame in
-    in_order w t' f' path fits (behind_event t f path (comment c) w s t' f' top frame)
+    in_order w t' f' path fits (after_event t f path (comment c) w s t' f' top frame)
 in_order (text c raw ∷ w) t f path fits s =
     let (t', top) = top_on t path (text c raw) w s.top in
     let (f', frame) = frame_on f path (text c raw) w s.frame in
     let a = text_allowed path c raw w (here t f path (text c raw) w s) in
-    (record { alone = a.alone; kind = a.kind }, in_order w t' f' path fits (behind_event t f path (text c raw) w s t' f' top frame))
+    (record { alone = a.alone; kind = a.kind }, in_order w t' f' path fits (after_event t f path (text c raw) w s t' f' top frame))
 in_order (start n foreign attributes ∷ w) t f path fits s =
     let (t', top) = top_on t path (start n foreign attributes) w s.top in
     let (f', frame) = frame_on f path (start n foreign attributes) w s.frame in
     let a = start_fits t f path n foreign attributes w fits s in
-    (a, in_order w t' f' (element n foreign ∷ path) (a.placed, first_html t f path n foreign attributes w s, fits) (behind_event t f path (start n foreign attributes) w s t' f' top frame))
+    (a, in_order w t' f' (element n foreign ∷ path) (a.placed, first_html t f path n foreign attributes w s, fits) (after_event t f path (start n foreign attributes) w s t' f' top frame))
 in_order (end n foreign ∷ w) t f path fits s =
     let (t', top) = top_on t path (end n foreign) w s.top in
     let (f', frame) = frame_on f path (end n foreign) w s.frame in
     let a = end_fits t f path n foreign w fits s in
-    (a.0, in_order w t' f' (outer path) a.1 (subst (λ p. SettledFrom t' f' p w) (outer_is path n foreign) (behind_event t f path (end n foreign) w s t' f' top frame)))
+    (a.0, in_order w t' f' (outer path) a.1 (subst (λ p. SettledFrom t' f' p w) (outer_is path n foreign) (after_event t f path (end n foreign) w s t' f' top frame)))
   where
-    outer_is : (path : List Element) (n : List ℕ) (foreign : Bool) → path_behind path (end n foreign) ≡ outer path
+    outer_is : (path : List Element) (n : List ℕ) (foreign : Bool) → path_after_event path (end n foreign) ≡ outer path
     outer_is [] n foreign = refl
     outer_is (e ∷ path) n foreign = refl
 

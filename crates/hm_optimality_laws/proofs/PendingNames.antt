@@ -6,7 +6,7 @@ use Rattle.hm_base.specs.Bytes.{is_digit, is_hex, is_null}
 use Rattle.hm_graph_laws.proofs.ChoiceLaws.{named_is}
 use Rattle.hm_graph_laws.proofs.In.{in_append, only}
 use Rattle.hm_graph_laws.proofs.Numbers.{two_in}
-use Rattle.hm_graph_laws.specs.CharacterEdges.{Choice, as_itself, behind_half, behind_name, behind_pair, by_decimal, by_hexadecimal, by_names, by_pairs, by_references, choice, choices, choices_by, itself_by, itself_to}
+use Rattle.hm_graph_laws.specs.CharacterEdges.{Choice, as_itself, after_half, after_name, after_pair, by_decimal, by_hexadecimal, by_names, by_pairs, by_references, choice, choices, choices_by, itself_by, itself_to}
 use Rattle.hm_graph_laws.specs.States.{Where, Pending, nothing, less_than, hash, hash_x, decimal, hexadecimal, ampersand, named, half, one_bracket, two_brackets, value_spot}
 use Rattle.hm_graph_laws.specs.Steps.{ampersand_in_text, ampersand_in_value, goes_on_decimal, goes_on_hexadecimal, is_hash, is_root, named_in_text, named_in_value, onto, run, step, unless}
 use Rattle.hm_optimality_laws.proofs.DearCharacters.{any_in}
@@ -132,16 +132,16 @@ same_self c = grind arith
 is_left_open : (t : List Entry) (c : ℕ) (e : Entry) → IsIn e t → is_closed e.name ≡ false → last_is c e.points ≡ true → may_leave_open t (Some c) ≡ true
 is_left_open t c e i h k = any_in (leaves_open c) e t i (rw (h, k) refl)
 
-name_comes : (t : List Entry) (c : ℕ) (next : Option ℕ) (e : Entry) → IsIn e t → e.points ≡ c ∷ [] → Comes t (Some c) next (behind_name e.name)
-unfolding behind_name
+name_comes : (t : List Entry) (c : ℕ) (next : Option ℕ) (e : Entry) → IsIn e t → e.points ≡ c ∷ [] → Comes t (Some c) next (after_name e.name)
+unfolding after_name
 name_comes t c next e i is = by_test (is_closed e.name) refl
   where
     by_test : (b : Bool) → is_closed e.name ≡ b → Comes t (Some c) next (cond b nothing (named e.name))
     by_test true h = tt
     by_test false h = is_left_open t c e i h (rw is (same_self c))
 
-pair_comes : (t : List Entry) (c d : ℕ) (e : Entry) → IsIn e t → e.points ≡ c ∷ d ∷ [] → Comes t (Some c) (Some d) (behind_pair e.name)
-unfolding behind_pair
+pair_comes : (t : List Entry) (c d : ℕ) (e : Entry) → IsIn e t → e.points ≡ c ∷ d ∷ [] → Comes t (Some c) (Some d) (after_pair e.name)
+unfolding after_pair
 pair_comes t c d e i is = record { entry = e; among = i; point = c; second = d; points_are = is; next_is = refl; left_open = λ q h. by_test (is_closed e.name) q h }
   where
     by_test : (b : Bool) (q : List ℕ) → cond b None (Some e.name) ≡ Some q → b ≡ false
@@ -167,7 +167,7 @@ hexadecimal_calm c k i = by_test (nat_le 1000000 c && nat_le c 1048575) i
     by_test false j = elim j [ ]
 
 reference_comes : (t : List Entry) (c : ℕ) (next : Option ℕ) (k : Choice) → IsIn k (by_references t c next) → Comes t (Some c) next k.to
-reference_comes t c next k i = by_first (in_append k (by_names behind_name (c ∷ []) t) (by_pairs t c next ++ (by_decimal (best_number c) ++ by_hexadecimal c)) i)
+reference_comes t c next k i = by_first (in_append k (by_names after_name (c ∷ []) t) (by_pairs t c next ++ (by_decimal (best_number c) ++ by_hexadecimal c)) i)
   where
     by_number : IsIn k (by_decimal (best_number c)) ⊎ IsIn k (by_hexadecimal c) → Calm k.to
     by_number (inl j) = decimal_calm (best_number c) k j
@@ -175,19 +175,19 @@ reference_comes t c next k i = by_first (in_append k (by_names behind_name (c �
 
     by_pair : (o : Option ℕ) → IsIn k (by_pairs t c o) → Comes t (Some c) o k.to
     by_pair None j = elim j [ ]
-    by_pair (Some d) j = let n = named_is t behind_pair (c ∷ d ∷ []) k j in subst (λ (l : Choice). Comes t (Some c) (Some d) l.to) (sym n.choice_is) (pair_comes t c d n.entry n.among n.points_are)
+    by_pair (Some d) j = let n = named_is t after_pair (c ∷ d ∷ []) k j in subst (λ (l : Choice). Comes t (Some c) (Some d) l.to) (sym n.choice_is) (pair_comes t c d n.entry n.among n.points_are)
 
     by_second : IsIn k (by_pairs t c next) ⊎ IsIn k (by_decimal (best_number c) ++ by_hexadecimal c) → Comes t (Some c) next k.to
     by_second (inl j) = by_pair next j
     by_second (inr j) = calm_comes t (Some c) next k.to (by_number (in_append k (by_decimal (best_number c)) (by_hexadecimal c) j))
 
-    by_first : IsIn k (by_names behind_name (c ∷ []) t) ⊎ IsIn k (by_pairs t c next ++ (by_decimal (best_number c) ++ by_hexadecimal c)) → Comes t (Some c) next k.to
-    by_first (inl j) = let n = named_is t behind_name (c ∷ []) k j in subst (λ (l : Choice). Comes t (Some c) next l.to) (sym n.choice_is) (name_comes t c next n.entry n.among n.points_are)
+    by_first : IsIn k (by_names after_name (c ∷ []) t) ⊎ IsIn k (by_pairs t c next ++ (by_decimal (best_number c) ++ by_hexadecimal c)) → Comes t (Some c) next k.to
+    by_first (inl j) = let n = named_is t after_name (c ∷ []) k j in subst (λ (l : Choice). Comes t (Some c) next l.to) (sym n.choice_is) (name_comes t c next n.entry n.among n.points_are)
     by_first (inr j) = by_second (in_append k (by_pairs t c next) (by_decimal (best_number c) ++ by_hexadecimal c) j)
 
 -- ---- After any choice
 
-due_comes : (t : List Entry) (c : ℕ) (next : Option ℕ) (left : Option (List ℕ)) → IsDue t (Some c) left → Comes t (Some c) next (behind_half left)
+due_comes : (t : List Entry) (c : ℕ) (next : Option ℕ) (left : Option (List ℕ)) → IsDue t (Some c) left → Comes t (Some c) next (after_half left)
 due_comes t c next None d = tt
 due_comes t c next (Some q) d =
     let same : c ≡ d.second = let h = d.next_is in cc in
@@ -206,5 +206,5 @@ whole_comes t rules at c next p k i = by_part (in_append k (as_itself t rules (v
 
 -- each choice of a character leaves pending what comes from names
 pub choice_comes : (t : List Entry) (rules : CharacterRules) (at : Where) (previous : Option ℕ) (c : ℕ) (next : Option ℕ) (p : Pending) (k : Choice) → Comes t previous (Some c) p → IsIn k (choices t rules (value_spot at) c next p) → Comes t (Some c) next k.to
-choice_comes t rules at previous c next (half left) k h i = subst (λ (l : Choice). Comes t (Some c) next l.to) (sym (only k (choice [] (behind_half left)) i)) (due_comes t c next left h)
+choice_comes t rules at previous c next (half left) k h i = subst (λ (l : Choice). Comes t (Some c) next l.to) (sym (only k (choice [] (after_half left)) i)) (due_comes t c next left h)
 choice_comes t rules at previous c next p k h i = whole_comes t rules at c next p k i

@@ -4,7 +4,7 @@ use Rattle.hm_graph_laws.specs.UnitEdges.{edges_of}
 use Rattle.hm_optimality_laws.proofs.Dominance.{dominance_loses_nothing}
 use Rattle.hm_optimality_laws.proofs.Least.{needless}
 use Rattle.hm_optimality_laws.proofs.Values.{trees_have_values}
-use Rattle.hm_optimality_laws.specs.Outdone.{dominance}
+use Rattle.hm_optimality_laws.specs.Dominated.{dominance}
 use Rattle.hm_optimality_laws.specs.SparseLaws.{SparsePricesShow}
 use Rattle.hm_spelling_spec.specs.Tags.{Spelling}
 use Rattle.hm_graph_laws.specs.Units.{units_of}

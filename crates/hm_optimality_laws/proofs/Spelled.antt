@@ -2,7 +2,7 @@
 use Rattle.std.proofs.Common.{◌≡◌, ℕ, Bool, true, false, cond, not, ◌&&◌, List, [], ◌∷◌, ◌++◌, Some, None, codes, refl, sym, ap, ◌∙◌, subst, append_assoc}
 use Rattle.std.proofs.lemmas.Bool.{and_parts, or_left, or_right}
 use Rattle.hm_graph_laws.proofs.AttributesSpelled.{tags_spell}
-use Rattle.hm_graph_laws.specs.AttributeLaws.{behind_tag, tag_units}
+use Rattle.hm_graph_laws.specs.AttributeLaws.{state_after_tag, tag_units}
 use Rattle.hm_base.specs.Walks.{Attribute, Event, doctype, start, text, comment, end, Element, begins_end}
 use Rattle.hm_elements.specs.Paths.{current, outer}
 use Rattle.hm_elements.specs.Tables.{is_void}
@@ -11,15 +11,15 @@ use Rattle.hm_graph_laws.specs.Ways.{Way}
 use Rattle.hm_refs.specs.Tables.{IsTable}
 use Rattle.hm_spelling_spec.specs.Omission.{may_omit_end, start_falls}
 use Rattle.hm_spelling_spec.specs.Spellings as forms
-use Rattle.hm_spelling_spec.specs.Spellings.{Before, behind_end, end_omitted, has_no_end_tag, is_self_closing, left_out_before, opening, other, self_closing, SpellsFrom, spot_of}
+use Rattle.hm_spelling_spec.specs.Spellings.{Before, after_end, end_omitted, has_no_end_tag, is_self_closing, left_out_before, opening, other, self_closing, SpellsFrom, spot_of}
 use Rattle.hm_spelling_spec.specs.Tags.{Spelling, SpellsStart}
-use Rattle.hm_graph_laws.specs.TagEdges.{behind_left_out, end_bytes, is_loose, is_self_closed, unloosed}
+use Rattle.hm_graph_laws.specs.TagEdges.{after_left_out, end_bytes, is_loose, is_self_closed, unloosed}
 use Rattle.hm_graph_laws.proofs.In.{only}
 use Rattle.hm_graph_laws.specs.Edges.{edge_to}
 use Rattle.hm_graph_laws.specs.States.{Where, outside, loose, self_closed, Pending, nothing, first_state, state}
 use Rattle.hm_graph_laws.specs.Steps.{Fits, keeps}
 use Rattle.hm_graph_laws.specs.Units.{doctype_bytes, end_tag, is_firm, is_loose_end, may_close_itself, Previous, text_units, units_from}
-use Rattle.hm_optimality_laws.proofs.Between.{Agrees, behind_text, end_in_text, end_left, end_loosened, end_void, fresh, start_closed, start_left, text_outside}
+use Rattle.hm_optimality_laws.proofs.Between.{Agrees, after_text, end_in_text, end_left, end_loosened, end_void, fresh, start_closed, start_left, text_outside}
 use Rattle.hm_optimality_laws.proofs.Cuts.{cut}
 use Rattle.hm_optimality_laws.proofs.Markup.{doctype_markup, leaves_end, markup_front, markup_keeps, may_leave_start, table_markup}
 use Rattle.hm_optimality_laws.proofs.Order.{element, EndFits, InOrder, StartFits}
@@ -63,7 +63,7 @@ module _ (g : Spelling) (table : IsTable g.table) where
       at_outside a way =
           let c = cut (edges_of g) (text_units previous path s raw) (units_from g.rules (Some (text s raw)) path w) (state outside p) b way in
           let (there, fits) = text_end g table before previous path s raw w p c.front c.middle a c.before in
-          let m = more other (Some (text s raw)) path c.middle.at c.middle.pending c.rest (behind_text g.table path w s raw c.middle.at c.middle.pending there fits o.alone) rest c.behind in
+          let m = more other (Some (text s raw)) path c.middle.at c.middle.pending c.rest (after_text g.table path w s raw c.middle.at c.middle.pending there fits o.alone) rest c.after in
           let t = text_spell g table before previous path s raw w p c.front c.rest c.middle o.kind a c.before m.kept in
           record { spells = (c.front, c.rest, c.whole, t.spells, m.spells); kept = subst (λ x. keeps g.table (spot_of path) p x ≡ true) (sym c.whole) t.kept }
 
@@ -94,7 +94,7 @@ module _ (g : Spelling) (table : IsTable g.table) where
         kept = start_kept path p n inner b rest a.fits is;
       }
     where
-      by_kind : (f : Bool) → opening ≡ forms.behind_start f forms.written
+      by_kind : (f : Bool) → opening ≡ forms.after_start f forms.written
       by_kind true = refl
       by_kind false = refl
 
@@ -127,10 +127,10 @@ module _ (g : Spelling) (table : IsTable g.table) where
       let c = cut (edges_of g) (tag_units n (x ∷ attributes) (may_close_itself foreign w)) (units_from g.rules (Some (start n foreign (x ∷ attributes))) (element n foreign ∷ path) w) (state at p) b way in
       let t = tags_spell g table (edges_of g) (tag_edges g) n (x ∷ attributes) (may_close_itself foreign w) (state at p) c.middle c.front c.rest f.placed.low f.names c.before in
       by_slash foreign a o t.slash t.inner c.rest (c.whole ∙ ap (λ y. y ++ c.rest) t.is) (subst (λ y. SpellsStart g n (x ∷ attributes) t.slash y c.rest) t.is t.spells) t.may
-      (subst (λ s. Way (edges_of g) (units_from g.rules (Some (start n foreign (x ∷ attributes))) (element n foreign ∷ path) w) s c.rest) t.leads c.behind)
+      (subst (λ s. Way (edges_of g) (units_from g.rules (Some (start n foreign (x ∷ attributes))) (element n foreign ∷ path) w) s c.rest) t.leads c.after)
     where
       by_slash : (foreign : Bool) → Agrees g.table before previous path at p (start n foreign (x ∷ attributes) ∷ w) → InOrder (element n foreign ∷ path) w → (slash : Bool) (inner rest : List ℕ) → b ≡ (60 ∷ inner) ++ rest → SpellsStart g n (x ∷ attributes) slash (60 ∷ inner) rest
-          → (slash ≡ true → may_close_itself foreign w ≡ true) → Way (edges_of g) (units_from g.rules (Some (start n foreign (x ∷ attributes))) (element n foreign ∷ path) w) (behind_tag slash) rest → Spells g before path p (start n foreign (x ∷ attributes) ∷ w) b
+          → (slash ≡ true → may_close_itself foreign w ≡ true) → Way (edges_of g) (units_from g.rules (Some (start n foreign (x ∷ attributes))) (element n foreign ∷ path) w) (state_after_tag slash) rest → Spells g before path p (start n foreign (x ∷ attributes) ∷ w) b
       by_slash foreign a o false inner rest is s may way = start_written w more n foreign (x ∷ attributes) before previous path at p b inner rest a o is s way
       by_slash true a o true inner rest is s may way = start_slashed w more n (x ∷ attributes) before previous path at p b inner rest a o (may refl) is s way
       by_slash false a o true inner rest is s may way = absurd (let h = may refl in cc)
@@ -164,7 +164,7 @@ module _ (g : Spelling) (table : IsTable g.table) where
 
   end_omits : (w : List Event) → More g w → (n : List ℕ) (before : Before) (previous : Previous) (path : List Element) (at : Where) (p : Pending) (b : List ℕ) → EndFits n false path → has_no_end_tag before n false ≡ false → is_self_closed at ≡ false
       → may_omit_end g.rules n false (outer path) w ≡ true → Agrees g.table before previous path at p (end n false ∷ w) → InOrder (outer path) w → (l : Bool) → is_loose_end n ≡ l
-      → Way (edges_of g) (units_from g.rules (Some (end n false)) (outer path) w) (behind_left_out l (state at p)) b → Spells g before path p (end n false ∷ w) b
+      → Way (edges_of g) (units_from g.rules (Some (end n false)) (outer path) w) (after_left_out l (state at p)) b → Spells g before path p (end n false ∷ w) b
   end_omits w more n before previous path at p b f h c may a o true l way =
       let falls = (leaves_end g.rules n false (outer path) w may).falls in
       let agrees = end_loosened g.table path n w f l falls in
@@ -190,7 +190,7 @@ module _ (g : Spelling) (table : IsTable g.table) where
       none c = rw (a.self, c, v) refl
 
       by_kind : (foreign : Bool) → has_no_end_tag before n foreign ≡ false → is_self_closed at ≡ false → may_omit_end g.rules n foreign (outer path) w ≡ true → Agrees g.table before previous path at p (end n foreign ∷ w) → EndFits n foreign path
-          → Way (edges_of g) (units_from g.rules (Some (end n foreign)) (outer path) w) (behind_left_out (is_loose_end n) (state at p)) b → Spells g before path p (end n foreign ∷ w) b
+          → Way (edges_of g) (units_from g.rules (Some (end n foreign)) (outer path) w) (after_left_out (is_loose_end n) (state at p)) b → Spells g before path p (end n foreign ∷ w) b
       by_kind true h c may a f way = absurd (let k = (leaves_end g.rules n true (outer path) w may).kind in cc)
       by_kind false h c may a f way = end_omits w more n before previous path at p b f h c may a o (is_loose_end n) refl way
 
@@ -201,7 +201,7 @@ module _ (g : Spelling) (table : IsTable g.table) where
           (subst (λ x. Way (edges_of g) (units_from g.rules (Some (end n foreign)) (outer path) w) x.to rest) same way))
       by_edge (edges.leaves_out c may same) =
           by_kind foreign (none c) c may a f
-          (subst (λ x. Way (edges_of g) (units_from g.rules (Some (end n foreign)) (outer path) w) (behind_left_out (is_loose_end n) (state at p)) x) (sym (is ∙ ap (λ x. x.bytes ++ rest) same))
+          (subst (λ x. Way (edges_of g) (units_from g.rules (Some (end n foreign)) (outer path) w) (after_left_out (is_loose_end n) (state at p)) x) (sym (is ∙ ap (λ x. x.bytes ++ rest) same))
           (subst (λ x. Way (edges_of g) (units_from g.rules (Some (end n foreign)) (outer path) w) x.to rest) same way))
       by_edge (edges.writes c same) =
           end_written w more n foreign before previous path at p b rest f (none c) a o (is ∙ ap (λ x. x.bytes ++ rest) same)

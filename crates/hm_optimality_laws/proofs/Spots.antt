@@ -12,7 +12,7 @@ use Rattle.hm_spelling_spec.specs.Spellings.{spot_of}
 use Rattle.hm_graph_laws.specs.CharacterEdges.{spot_at}
 use Rattle.hm_graph_laws.specs.CharacterLaws.{stands_at}
 use Rattle.hm_graph_laws.specs.States.{Pending, ampersand, decimal, half, hash, hash_x, hexadecimal, less_than, named, nothing, one_bracket, two_brackets, outside}
-use Rattle.hm_graph_laws.specs.Steps.{Fits, IsOpen, keeps, may_end, reference_behind}
+use Rattle.hm_graph_laws.specs.Steps.{Fits, IsOpen, keeps, may_end, reference_after}
 use Rattle.hm_graph_laws.specs.Units.{kind_of, in_foreign, in_rcdata, in_text}
 use Rattle.hm_graph_laws.proofs.Steps.{end_law}
 
@@ -40,7 +40,7 @@ keeps_over t a b decimal s e h = refl
 keeps_over t a b hexadecimal s e h = refl
 keeps_over t a b hash s e h = refl
 keeps_over t a b hash_x s e h = refl
-keeps_over t a b (ampersand q) s e h = ap (λ v. is_none (reference_behind t v q s)) e
+keeps_over t a b (ampersand q) s e h = ap (λ v. is_none (reference_after t v q s)) e
 keeps_over t a b (named q) s e h = ap (λ v. not (v && head_is blocks s) && is_none (found_longer t q s)) e
 keeps_over t a b (half left) s e h = refl
 keeps_over t a b one_bracket s e h = refl

@@ -4,7 +4,7 @@ use Rattle.std.specs.List.{list_all}
 use Rattle.std.proofs.lemmas.Bool.{and_parts, false_from_ne_true, both_ways, not-true}
 use Rattle.hm_base.specs.Walks.{Event, doctype, start, text, comment, end, begins_end, begins_start}
 use Rattle.hm_elements.specs.Names.{words, is_among, html, head, body, table, colgroup, tbody, col, tr}
-use Rattle.hm_elements.specs.Omission.{bars_start, before_rows, goes_before, goes_up, start_goes_before, start_rows, up_names}
+use Rattle.hm_elements.specs.Omission.{start_tag_required_after, before_rows, end_tag_optional_before, end_tag_optional_in, start_tag_optional_before, start_rows, up_names}
 use Rattle.hm_elements.specs.Tables.{blocks, headings, holds_text, is_raw, is_rcdata, is_root, is_section, is_void, raw_names, rcdata_names, roots, sections, voids}
 use Rattle.hm_elements.proofs.TableFacts.{start_cases}
 use Rattle.hm_elements.proofs.TableTools.{entry_passes, same_bytes}
@@ -49,7 +49,7 @@ child_open n (doctype legacy ∷ w) h = absurd (cc)
 child_open n (text s raw ∷ w) h = absurd (cc)
 child_open n (comment s ∷ w) h = absurd (cc)
 child_open n (end m foreign ∷ w) h = absurd (cc)
-child_open n (start m foreign attributes ∷ w) h = elim (start_cases n m (and_parts (not foreign) (start_goes_before n m) h).1) [
+child_open n (start m foreign attributes ∷ w) h = elim (start_cases n m (and_parts (not foreign) (start_tag_optional_before n m) h).1) [
   | inl (e, k) ↦ subst (λ x. is_open_name x ≡ true) (sym e) roots_open.1
   | inr (e, k) ↦ subst (λ x. is_open_name x ≡ true) (sym e) roots_open.2
 ]
@@ -92,7 +92,7 @@ loose_goes n parent w l h = goes_tag n parent w (rw (other_name n html l frame_n
 
 -- the end tag of table is always there
 no_goes : (parent : List ℕ) (w : List Event) → end_goes table parent w ≡ false
-unfolding goes_before goes_up before_rows up_names blocks headings sections is_among
+unfolding end_tag_optional_before end_tag_optional_in before_rows up_names blocks headings sections is_among
 no_goes parent [] = refl
 no_goes parent (doctype legacy ∷ w) = refl
 no_goes parent (text s raw ∷ w) = refl
@@ -114,7 +114,7 @@ goes_open n parent [] h = absurd (cc)
 goes_open n parent (doctype legacy ∷ w) h = absurd (cc)
 goes_open n parent (text s raw ∷ w) h = absurd (cc)
 goes_open n parent (comment s ∷ w) h = absurd (cc)
-goes_open n parent (start m foreign attributes ∷ w) h = (left_open_holds n m (inl (and_parts (not foreign) (goes_before n m) h).1)).no_text
+goes_open n parent (start m foreign attributes ∷ w) h = (left_open_holds n m (inl (and_parts (not foreign) (end_tag_optional_before n m) h).1)).no_text
 goes_open n parent (end m foreign ∷ w) h = (left_open_holds n parent (inr h)).no_text
 
 -- what holds one text has its end tag
@@ -151,8 +151,8 @@ void_plain n h =
 
 -- ---- what bars a start
 
-pub bars_nothing : (n m : List ℕ) → is_loose_end n ≡ false → bars_start n m ≡ false
-unfolding bars_start
+pub bars_nothing : (n m : List ℕ) → is_loose_end n ≡ false → start_tag_required_after n m ≡ false
+unfolding start_tag_required_after
 bars_nothing n m h = by_tests (is_section n) (bytes_eq n colgroup) (bytes_eq m tbody) (bytes_eq m colgroup) h
   where
     by_tests : (a b x y : Bool) → (a || b) ≡ false → ((x && a) || (y && b)) ≡ false
@@ -166,7 +166,7 @@ bars_nothing n m h = by_tests (is_section n) (bytes_eq n colgroup) (bytes_eq m t
 -- ---- a start after one that is left out
 
 no_child : (w : List Event) → (begins_child_of col w ≡ false) × (begins_child_of tr w ≡ false)
-unfolding start_goes_before start_rows is_among
+unfolding start_tag_optional_before start_rows is_among
 no_child [] = (refl, refl)
 no_child (doctype legacy ∷ w) = (refl, refl)
 no_child (text s raw ∷ w) = (refl, refl)
@@ -176,7 +176,7 @@ no_child (start m false attributes ∷ w) = (refl, refl)
 no_child (end m foreign ∷ w) = (refl, refl)
 
 -- the start tag of such a child is always there
-pub child_stays : (frame : Bool) (n k : List ℕ) (w : List Event) → start_goes_before n k ≡ true → start_falls frame k w ≡ false
+pub child_stays : (frame : Bool) (n k : List ℕ) (w : List Event) → start_tag_optional_before n k ≡ true → start_falls frame k w ≡ false
 unfolding start_falls
 child_stays frame n k w h = elim (start_cases n k h) [
   | inl (d, e) ↦ subst (λ x. start_falls frame x w ≡ false) (sym e) (no_child w).0

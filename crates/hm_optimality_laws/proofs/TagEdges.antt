@@ -1,7 +1,7 @@
 -- What the edges of tags without attributes are.
 use Rattle.std.proofs.Common.{◌≡◌, ℕ, Bool, true, false, cond, not, ◌&&◌, List, [], ◌∷◌, ◌++◌, codes, refl, inl, inr, ◌⊎◌}
 use Rattle.hm_refs.specs.Tables.{IsIn, first, later}
-use Rattle.hm_graph_laws.specs.TagEdges.{behind_left_out, end_bytes, end_edges, is_loose, is_self_closed, start_bytes, start_edges, unloosed}
+use Rattle.hm_graph_laws.specs.TagEdges.{after_left_out, end_bytes, end_edges, is_loose, is_self_closed, start_bytes, start_edges, unloosed}
 use Rattle.hm_graph_laws.proofs.In.{in_append, in_right, only}
 use Rattle.hm_graph_laws.specs.Edges.{Edge, edge, edge_to}
 use Rattle.hm_graph_laws.specs.States.{nothing, self_closed, State, first_state, state}
@@ -48,29 +48,29 @@ into_slashed n omits firm closes s c =
 
 pub data IsEndEdge (n : List ℕ) (omits loosens : Bool) (s : State) (e : Edge) : Type 0 where
   closed : is_self_closed s.at ≡ true → e ≡ edge_to [] first_state → IsEndEdge n omits loosens s e
-  leaves_out : is_self_closed s.at ≡ false → omits ≡ true → e ≡ edge_to [] (behind_left_out loosens s) → IsEndEdge n omits loosens s e
+  leaves_out : is_self_closed s.at ≡ false → omits ≡ true → e ≡ edge_to [] (after_left_out loosens s) → IsEndEdge n omits loosens s e
   writes : is_self_closed s.at ≡ false → e ≡ edge_to (end_bytes n) first_state → IsEndEdge n omits loosens s e
 
 pub end_edge_is : (n : List ℕ) (omits loosens : Bool) (s : State) (e : Edge) → IsIn e (end_edges n omits loosens s) → IsEndEdge n omits loosens s e
 end_edge_is n omits loosens s e i = by_closed (is_self_closed s.at) refl i
   where
-    by_omits : is_self_closed s.at ≡ false → (o : Bool) → omits ≡ o → IsIn e (cond o (edge_to [] (behind_left_out loosens s) ∷ []) []) → IsEndEdge n omits loosens s e
+    by_omits : is_self_closed s.at ≡ false → (o : Bool) → omits ≡ o → IsIn e (cond o (edge_to [] (after_left_out loosens s) ∷ []) []) → IsEndEdge n omits loosens s e
     by_omits h true k j = leaves_out h k (only e _ j)
     by_omits h false k j = elim j [ ]
 
-    by_part : is_self_closed s.at ≡ false → IsIn e (cond omits (edge_to [] (behind_left_out loosens s) ∷ []) []) ⊎ IsIn e (edge_to (end_bytes n) first_state ∷ []) → IsEndEdge n omits loosens s e
+    by_part : is_self_closed s.at ≡ false → IsIn e (cond omits (edge_to [] (after_left_out loosens s) ∷ []) []) ⊎ IsIn e (edge_to (end_bytes n) first_state ∷ []) → IsEndEdge n omits loosens s e
     by_part h (inl j) = by_omits h omits refl j
     by_part h (inr j) = writes h (only e _ j)
 
-    by_closed : (c : Bool) → is_self_closed s.at ≡ c → IsIn e (cond c (edge_to [] first_state ∷ []) (cond omits (edge_to [] (behind_left_out loosens s) ∷ []) [] ++ edge_to (end_bytes n) first_state ∷ [])) → IsEndEdge n omits loosens s e
+    by_closed : (c : Bool) → is_self_closed s.at ≡ c → IsIn e (cond c (edge_to [] first_state ∷ []) (cond omits (edge_to [] (after_left_out loosens s) ∷ []) [] ++ edge_to (end_bytes n) first_state ∷ [])) → IsEndEdge n omits loosens s e
     by_closed true h j = closed h (only e _ j)
-    by_closed false h j = by_part h (in_append e (cond omits (edge_to [] (behind_left_out loosens s) ∷ []) []) (edge_to (end_bytes n) first_state ∷ []) j)
+    by_closed false h j = by_part h (in_append e (cond omits (edge_to [] (after_left_out loosens s) ∷ []) []) (edge_to (end_bytes n) first_state ∷ []) j)
 
 pub into_closed : (n : List ℕ) (omits loosens : Bool) (s : State) → is_self_closed s.at ≡ true → IsIn (edge_to [] first_state) (end_edges n omits loosens s)
 into_closed n omits loosens s h = rw h (first [])
 
-pub into_end_left_out : (n : List ℕ) (omits loosens : Bool) (s : State) → is_self_closed s.at ≡ false → omits ≡ true → IsIn (edge_to [] (behind_left_out loosens s)) (end_edges n omits loosens s)
+pub into_end_left_out : (n : List ℕ) (omits loosens : Bool) (s : State) → is_self_closed s.at ≡ false → omits ≡ true → IsIn (edge_to [] (after_left_out loosens s)) (end_edges n omits loosens s)
 into_end_left_out n omits loosens s h o = rw (h, o) (first (edge_to (end_bytes n) first_state ∷ []))
 
 pub into_end_written : (n : List ℕ) (omits loosens : Bool) (s : State) → is_self_closed s.at ≡ false → IsIn (edge_to (end_bytes n) first_state) (end_edges n omits loosens s)
-into_end_written n omits loosens s h = rw h (in_right (edge_to (end_bytes n) first_state) (cond omits (edge_to [] (behind_left_out loosens s) ∷ []) []) (edge_to (end_bytes n) first_state ∷ []) (first []))
+into_end_written n omits loosens s h = rw h (in_right (edge_to (end_bytes n) first_state) (cond omits (edge_to [] (after_left_out loosens s) ∷ []) []) (edge_to (end_bytes n) first_state ∷ []) (first []))

@@ -71,7 +71,7 @@ module _ (g : Spelling) (table : IsTable g.table) where
       Feed v = cond v (fixed (10 ∷ []) ∷ []) []
 
       with_units : (v : Bool) → wants_line_feed before path (chars s) ≡ v → (bytes : List ℕ) (to : State) → WayTo (edges_of g) (Feed v ++ character_units (kind_of path) (chars s)) (state outside p) bytes to → WayTo (edges_of g) (text_units previous path s false) (state outside p) bytes to
-      with_units v e bytes to way = subst (λ us. WayTo (edges_of g) (us ++ character_units (kind_of path) (chars s)) (state outside p) bytes to) (sym (feed_units before previous path (chars s) (a.behind_start refl) ∙ ap Feed e)) way
+      with_units v e bytes to way = subst (λ us. WayTo (edges_of g) (us ++ character_units (kind_of path) (chars s)) (state outside p) bytes to) (sym (feed_units before previous path (chars s) (a.after_start refl) ∙ ap Feed e)) way
 
       by_feed : (v : Bool) → wants_line_feed before path (chars s) ≡ v → SpellsPoints g.table (character_rules g) (spot_of path) (cond v (10 ∷ chars s) (chars s)) b after → HasText g previous path s false p b after
       by_feed false e t =

@@ -22,7 +22,7 @@ use Rattle.hm_graph_laws.specs.CharacterLaws.{HasCharacterEdges, keeps_at, MaySt
 use Rattle.hm_graph_laws.specs.Edges.{edge_to}
 use Rattle.hm_graph_laws.specs.States.{outside, Pending, nothing, State, first_state, state}
 use Rattle.hm_graph_laws.specs.Steps.{Fits, keeps}
-use Rattle.hm_graph_laws.specs.Units.{character_units, fixed, is_behind_start, kind_of, line_feed_units, Previous, text_units, Unit}
+use Rattle.hm_graph_laws.specs.Units.{character_units, fixed, is_after_start, kind_of, line_feed_units, Previous, text_units, Unit}
 use Rattle.hm_graph_laws.specs.UnitWays.{WayTo}
 use Rattle.hm_optimality_laws.proofs.Between.{Agrees}
 use Rattle.hm_optimality_laws.proofs.Spots.{kind_spot, kind_stands, text_spot}
@@ -43,17 +43,17 @@ opening_cond : (b : Bool) → is_opening (cond b opening other) ≡ b
 opening_cond true = refl
 opening_cond false = refl
 
-pub feed_units : (before : Before) (previous : Previous) (path : List Element) (cs : List ℕ) → is_opening before ≡ is_behind_start previous → line_feed_units previous path cs ≡ cond (wants_line_feed before path cs) (fixed (10 ∷ []) ∷ []) []
+pub feed_units : (before : Before) (previous : Previous) (path : List Element) (cs : List ℕ) → is_opening before ≡ is_after_start previous → line_feed_units previous path cs ≡ cond (wants_line_feed before path cs) (fixed (10 ∷ []) ∷ []) []
 feed_units before previous path cs o =
     let U : Bool → List Unit = λ b. cond (b && (drops_first_line_feed path && head_is is_line_feed cs)) (fixed (10 ∷ []) ∷ []) [] in
-    ap U (opening_cond (is_behind_start previous) ∙ sym o)
+    ap U (opening_cond (is_after_start previous) ∙ sym o)
 
 -- where one is due, it is the first thing in its element
-pub feed_first : (before : Before) (previous : Previous) (path : List Element) (cs : List ℕ) → is_opening before ≡ is_behind_start previous → wants_line_feed before path cs ≡ true → is_in_text path || (is_behind_start previous && drops_first_line_feed path) ≡ true
+pub feed_first : (before : Before) (previous : Previous) (path : List Element) (cs : List ℕ) → is_opening before ≡ is_after_start previous → wants_line_feed before path cs ≡ true → is_in_text path || (is_after_start previous && drops_first_line_feed path) ≡ true
 feed_first before previous path cs o h =
     let two = and_parts (is_opening before) (drops_first_line_feed path && head_is is_line_feed cs) h in
     let drops = (and_parts (drops_first_line_feed path) (head_is is_line_feed cs) two.1).0 in
-    or_right (is_in_text path) (is_behind_start previous && drops_first_line_feed path) (rw (sym o ∙ two.0, drops) refl)
+    or_right (is_in_text path) (is_after_start previous && drops_first_line_feed path) (rw (sym o ∙ two.0, drops) refl)
 
 feed_stands : (ascii : Bool) (spot : Spot) → is_value spot ≡ false → may_stand ascii spot 10 ≡ true
 unfolding may_stand is_writable
@@ -67,9 +67,9 @@ feed_stands ascii spots.unquoted v = absurd (cc)
 feed_stands ascii spots.double v = absurd (cc)
 feed_stands ascii spots.single v = absurd (cc)
 
-feed_stays : (t : List Entry) (spot : Spot) (behind : List ℕ) → stays t spot 10 behind ≡ true
+feed_stays : (t : List Entry) (spot : Spot) (after : List ℕ) → stays t spot 10 after ≡ true
 unfolding stays
-feed_stays t spot behind = refl
+feed_stays t spot after = refl
 
 -- a line feed as itself before the others
 pub with_feed : (t : List Entry) (rules : CharacterRules) (spot : Spot) (cs b after : List ℕ) → is_value spot ≡ false → SpellsPoints t rules spot cs b after → SpellsPoints t rules spot (10 ∷ cs) (10 ∷ b) after
@@ -111,7 +111,7 @@ module _ (g : Spelling) (table : IsTable g.table) where
   abbrev FeedWay : List Element → List ℕ → Pending → List ℕ → State → Bool → Type 0
   FeedWay path cs p b to v = WayTo (edges_of g) (cond v (fixed (10 ∷ []) ∷ []) [] ++ character_units (kind_of path) cs) (state outside p) b to
 
-  feed_way : (before : Before) (previous : Previous) (path : List Element) (s : List ℕ) (p : Pending) (b : List ℕ) (to : State) → is_opening before ≡ is_behind_start previous
+  feed_way : (before : Before) (previous : Previous) (path : List Element) (s : List ℕ) (p : Pending) (b : List ℕ) (to : State) → is_opening before ≡ is_after_start previous
       → WayTo (edges_of g) (text_units previous path s false) (state outside p) b to → FeedWay path (chars s) p b to (wants_line_feed before path (chars s))
   feed_way before previous path s p b to o w = subst (λ us. WayTo (edges_of g) (us ++ character_units (kind_of path) (chars s)) (state outside p) b to) (feed_units before previous path (chars s) o) w
 
@@ -134,7 +134,7 @@ module _ (g : Spelling) (table : IsTable g.table) where
   text_end before previous path s true w p b to a (e, i, (rest, is, (none, same))) =
       let k : first_state ≡ to = ap (λ x. x.to) (sym (only e (edge_to s first_state) i)) ∙ same in
       (sym (ap (λ z. z.at) k), subst (λ z. Fits g.table (spot_of path) z.pending) k tt)
-  text_end before previous path s false w p b to a way = feed_end path (chars s) p b to a.fits (wants_line_feed before path (chars s)) (feed_way before previous path s p b to (a.behind_start refl) way)
+  text_end before previous path s false w p b to a way = feed_end path (chars s) p b to a.fits (wants_line_feed before path (chars s)) (feed_way before previous path s p b to (a.after_start refl) way)
 
   pub text_spell : (before : Before) (previous : Previous) (path : List Element) (s : List ℕ) (raw : Bool) (w : List Event) (p : Pending) (b after : List ℕ) (to : State) → raw ≡ is_in_raw path → Agrees g.table before previous path outside p (text s raw ∷ w)
       → WayTo (edges_of g) (text_units previous path s raw) (state outside p) b to → keeps g.table (spot_of path) to.pending after ≡ true → TextSpelled g before path s raw p b after
@@ -143,6 +143,6 @@ module _ (g : Spelling) (table : IsTable g.table) where
       let q : p ≡ nothing = a.quiet (or_left (is_in_text path) _ (raw_in_text path (sym kind))) in
       record { spells = written; kept = subst (λ z. keeps g.table (spot_of path) z (b ++ after) ≡ true) (sym q) refl }
   text_spell before previous path s false w p b after to kind a way k =
-      let o = a.behind_start refl in
+      let o = a.after_start refl in
       let r = feed_spell path (chars s) p b after to a.fits k (wants_line_feed before path (chars s)) (λ v. a.quiet (feed_first before previous path (chars s) o v)) (feed_way before previous path s p b to o way) in
       record { spells = r.0; kept = r.1 }

@@ -6,7 +6,7 @@ use Rattle.hm_elements.specs.Paths.{outer}
 use Rattle.hm_elements.specs.Tables.{is_void}
 use Rattle.hm_spelling_spec.specs.Omission.{may_omit_end}
 use Rattle.hm_spelling_spec.specs.Spellings.{wants_line_feed, opening, other}
-use Rattle.hm_graph_laws.specs.Units.{Unit, TextKind, fixed, start_tag, tag_name, bare_attribute, attribute_name, character, attribute_end, tag_close, end_tag, character_units, attribute_units, start_units, end_units, text_units, line_feed_units, is_behind_start, is_loose_end, may_close_itself, kind_of, Previous, units_from, in_value}
+use Rattle.hm_graph_laws.specs.Units.{Unit, TextKind, fixed, start_tag, tag_name, bare_attribute, attribute_name, character, attribute_end, tag_close, end_tag, character_units, attribute_units, start_units, end_units, text_units, line_feed_units, is_after_start, is_loose_end, may_close_itself, kind_of, Previous, units_from, in_value}
 use Rattle.hm_optimality_laws.specs.Forms.{value_and}
 use Rattle.hm_optimality_laws.specs.SparseLaws.{HaveValues, IsFollowed, TreesHaveValues}
 
@@ -51,7 +51,7 @@ in_start r previous n foreign (a ∷ attributes) w = (tt, join (attribute_units 
 in_text : (previous : Previous) (path : List Element) (s : List ℕ) (raw : Bool) → HaveValues (text_units previous path s raw)
 in_text previous path s true = (tt, tt)
 in_text previous path s false =
-    join (line_feed_units previous path (chars s)) (character_units (kind_of path) (chars s)) (feed (wants_line_feed (cond (is_behind_start previous) opening other) path (chars s))) (in_characters (kind_of path) (chars s))
+    join (line_feed_units previous path (chars s)) (character_units (kind_of path) (chars s)) (feed (wants_line_feed (cond (is_after_start previous) opening other) path (chars s))) (in_characters (kind_of path) (chars s))
   where
     feed : (b : Bool) → HaveValues (cond b (fixed (10 ∷ []) ∷ []) [])
     feed true = (tt, tt)

@@ -3,12 +3,12 @@ use Rattle.std.proofs.Common.{◌≡◌, ℕ, Bool, true, false, List, [], ◌�
 use Rattle.hm_base.specs.Bytes.{head_is}
 use Rattle.hm_base.specs.Walks.{Attribute, Event, doctype, start, text, comment, end, Element}
 use Rattle.hm_elements.specs.Paths.{outer}
-use Rattle.hm_markup_spec.specs.Tags.{Form, bare, unquoted, double, single, WritesAttributes}
+use Rattle.hm_markup_spec.specs.Tags.{Quoting, bare, unquoted, double, single, WritesAttributes}
 use Rattle.hm_refs.specs.Names.{Entry}
 use Rattle.hm_spelling_spec.specs.Characters as spots
 use Rattle.hm_spelling_spec.specs.Characters.{AreAllowed, CharacterRules, IsAllowed, itself, Piece, reference_to, section, spelled, SpellsPoints, Spot}
 use Rattle.hm_spelling_spec.specs.Spellings as forms
-use Rattle.hm_spelling_spec.specs.Spellings.{Before, behind_end, behind_start, EndForm, EndSp, everywhere, other, SpellsFrom, StartForm, StartSp, TextSp}
+use Rattle.hm_spelling_spec.specs.Spellings.{Before, after_end, after_start, EndForm, EndSp, everywhere, other, SpellsFrom, StartForm, StartSp, TextSp}
 use Rattle.hm_spelling_spec.specs.Tags.{character_rules, Spelling, SpellsStart, SpellsValue}
 
 -- the same with references everywhere
@@ -24,10 +24,10 @@ begins : (p : ℕ → Bool) (qs : List ℕ) → head_is p qs ≡ true → head_i
 begins p [] h = absurd (cc)
 begins p (c ∷ qs) h = refl
 
-piece_wider : (t : List Entry) (rules : CharacterRules) (spot : Spot) (q : Piece) (behind : List ℕ) → IsAllowed t rules spot q behind → IsAllowed t (wide_rules rules) spot q behind
-piece_wider t rules spot (itself c) behind a = a
-piece_wider t rules spot (reference_to b qs) behind (h, read) = (begins rules.refers qs h, read)
-piece_wider t rules spot (section cs) behind a = a
+piece_wider : (t : List Entry) (rules : CharacterRules) (spot : Spot) (q : Piece) (after : List ℕ) → IsAllowed t rules spot q after → IsAllowed t (wide_rules rules) spot q after
+piece_wider t rules spot (itself c) after a = a
+piece_wider t rules spot (reference_to b qs) after (h, read) = (begins rules.refers qs h, read)
+piece_wider t rules spot (section cs) after a = a
 
 pieces_wider : (t : List Entry) (rules : CharacterRules) (spot : Spot) (ps : List Piece) (after : List ℕ) → AreAllowed t rules spot ps after → AreAllowed t (wide_rules rules) spot ps after
 pieces_wider t rules spot [] after a = tt
@@ -39,13 +39,13 @@ points_wider t rules spot cs b after s = record { pieces = s.pieces; whole = s.w
 -- ---- tags
 
 module _ (g : Spelling) where
-  value_wider : (form : Form) (value b after : List ℕ) → SpellsValue g form value b after → SpellsValue (widened g) form value b after
+  value_wider : (form : Quoting) (value b after : List ℕ) → SpellsValue g form value b after → SpellsValue (widened g) form value b after
   value_wider bare value b after v = v
   value_wider unquoted value b after v = record { written = v.written; is = v.is; allowed = v.allowed; some = v.some; spells = points_wider g.table (character_rules g) spots.unquoted _ v.written after v.spells }
   value_wider double value b after v = record { written = v.written; is = v.is; spells = points_wider g.table (character_rules g) spots.double _ v.written (34 ∷ after) v.spells }
   value_wider single value b after v = record { written = v.written; is = v.is; spells = points_wider g.table (character_rules g) spots.single _ v.written (39 ∷ after) v.spells }
 
-  attributes_wider : (touching : Bool) (before last : Form) (attributes : List Attribute) (b after : List ℕ) → WritesAttributes (SpellsValue g) touching before last attributes b after → WritesAttributes (SpellsValue (widened g)) touching before last attributes b after
+  attributes_wider : (touching : Bool) (before last : Quoting) (attributes : List Attribute) (b after : List ℕ) → WritesAttributes (SpellsValue g) touching before last attributes b after → WritesAttributes (SpellsValue (widened g)) touching before last attributes b after
   attributes_wider touching before last [] b after w = w
   attributes_wider touching before last (a ∷ attributes) b after (form, piece, rest, is, one, more) =
       (form, piece, rest, is, record { gap = one.gap; name = one.name; value = one.value; is = one.is; apart = one.apart; lowered = one.lowered; assigned = value_wider form a.value one.value (rest ++ after) one.assigned }, attributes_wider touching form last attributes rest after more)
@@ -84,5 +84,5 @@ module _ (g : Spelling) where
   wider (comment s ∷ w) before path b (rest, is, more) = (rest, is, wider w other path rest more)
   wider (text s raw ∷ w) before path b (piece, rest, is, t, more) = (piece, rest, is, text_wider before path s raw piece rest t, wider w other path rest more)
   wider (start n foreign attributes ∷ w) before path b (form, piece, rest, is, s, more) =
-      (form, piece, rest, is, start_wider before n foreign attributes w form piece rest s, wider w (behind_start foreign form) (record { name = n; foreign = foreign } ∷ path) rest more)
-  wider (end n foreign ∷ w) before path b (form, piece, rest, is, e, more) = (form, piece, rest, is, end_wider before n foreign (outer path) w form piece e, wider w (behind_end n form) (outer path) rest more)
+      (form, piece, rest, is, start_wider before n foreign attributes w form piece rest s, wider w (after_start foreign form) (record { name = n; foreign = foreign } ∷ path) rest more)
+  wider (end n foreign ∷ w) before path b (form, piece, rest, is, e, more) = (form, piece, rest, is, end_wider before n foreign (outer path) w form piece e, wider w (after_end n form) (outer path) rest more)

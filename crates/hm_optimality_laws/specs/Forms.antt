@@ -3,7 +3,7 @@
 use Rattle.std.specs.Prelude.{◌≡◌, ◌≤◌, ℕ, ◌+◌, true, List, ◌∷◌, ◌++◌, length}
 use Rattle.hm_refs.specs.Tables.{IsTable}
 use Rattle.hm_spelling_spec.specs.Tags.{Spelling}
-use Rattle.hm_graph_laws.specs.Forms.{added, covers, gains, spared}
+use Rattle.hm_graph_laws.specs.Forms.{added, covers, gains, saved}
 use Rattle.hm_graph_laws.specs.States.{Where, in_unquoted, in_double, in_single, nothing, state}
 use Rattle.hm_graph_laws.specs.UnitEdges.{edges_of}
 use Rattle.hm_graph_laws.specs.Units.{Unit, attribute_end, character_units, in_value}
@@ -31,4 +31,4 @@ abbrev pub FormsAreBounded : Type 0
 FormsAreBounded =
     (g : Spelling) → IsTable g.table → (v : List ℕ) (form other : Where) → IsForm form → IsForm other → covers form other v ≡ true
     → (units : List Unit) (b : List ℕ) → Way (edges_of g) (value_and v units) (state other nothing) b
-    → HasFormWay g (value_and v units) form b (added other) (spared (gains g.table form other v))
+    → HasFormWay g (value_and v units) form b (added other) (saved (gains g.table form other v))

@@ -1,7 +1,7 @@
 pub mod SpellingLaws
 pub mod Forms
 pub mod FormExamples
-pub mod Outdone
+pub mod Dominated
 pub mod Formats
 pub mod SparseLaws
 pub mod SparseExamples

@@ -2,18 +2,18 @@
 use Rattle.std.specs.Prelude.{◌≡◌, ℕ, true, false, List, [], ◌∷◌, Some, None, codes, refl}
 use Rattle.std.specs.Fmt.{digits}
 use lib.Utf8.{encode}
-use Rattle.hm_optimality_laws.specs.Outdone.{dominance, forced_follows, kept_edges, sparse}
+use Rattle.hm_optimality_laws.specs.Dominated.{dominance, forced_follows, kept_edges, sparse}
 use Rattle.hm_refs.specs.Numbers.{best_number, point_of}
 use Rattle.hm_spelling_spec.specs.Characters.{is_barred, is_writable, may_stand}
 use Rattle.hm_graph_laws.specs.TagEdges.{start_edges}
-use Rattle.hm_graph_laws.specs.CharacterEdges.{as_itself, behind_pair, character_edges}
+use Rattle.hm_graph_laws.specs.CharacterEdges.{as_itself, after_pair, character_edges}
 use Rattle.hm_graph_laws.specs.CharacterExamples.{two, usual}
 use Rattle.hm_base.specs.Bytes.{is_space}
 use Rattle.hm_graph_laws.specs.AttributeEdges.{opening_edges}
 use Rattle.hm_graph_laws.specs.Edges.{Edge, edge}
 use Rattle.hm_refs.specs.Examples.{seven}
 use Rattle.hm_refs.specs.Names.{Entry}
-use Rattle.hm_graph_laws.specs.States.{first_state, same_state, state, behind_name, in_double, in_single, in_unquoted, outside, loose, in_section, nothing, less_than, decimal, half, two_brackets}
+use Rattle.hm_graph_laws.specs.States.{first_state, same_state, state, after_name, in_double, in_single, in_unquoted, outside, loose, in_section, nothing, less_than, decimal, half, two_brackets}
 use Rattle.hm_graph_laws.specs.Units.{attribute_end, attribute_name, character, in_foreign, in_text, start_tag}
 
 -- a plain character stands as itself
@@ -28,7 +28,7 @@ of_less_than = refl
 
 -- a code point that is due isn't forgotten
 pub of_pair : kept_edges (dominance two) (character in_text 120 (Some 0x338)) (character_edges two usual in_text 120 (Some 0x338) first_state) ≡ edge (codes "x") outside nothing ∷ edge (codes "&ab;") outside (half None) ∷ []
-unfolding same_state as_itself may_stand is_writable best_number point_of digits encode behind_pair
+unfolding same_state as_itself may_stand is_writable best_number point_of digits encode after_pair
 of_pair = refl
 
 -- With nothing pending a start tag that may be left out is left out. After a number without ';' the tag is kept as well,
@@ -37,9 +37,9 @@ pub of_start_tag : kept_edges (dominance []) (start_tag (codes "p") true false f
 unfolding same_state
 of_start_tag = refl
 
-pub of_start_tag_behind_number : kept_edges (dominance []) (start_tag (codes "p") true false false) (start_edges (codes "p") true false false (state outside decimal)) ≡ edge [] outside decimal ∷ edge (codes "<p>") outside nothing ∷ []
+pub of_start_tag_after_number : kept_edges (dominance []) (start_tag (codes "p") true false false) (start_edges (codes "p") true false false (state outside decimal)) ≡ edge [] outside decimal ∷ edge (codes "<p>") outside nothing ∷ []
 unfolding same_state
-of_start_tag_behind_number = refl
+of_start_tag_after_number = refl
 
 -- a layer is left out where no state has a choice, however many states there are
 pub two_forced : forced_follows (sparse (dominance []) (λ unit s. start_edges (codes "p") true false false s)) attribute_end (first_state ∷ state loose nothing ∷ []) ≡ true
@@ -65,9 +65,9 @@ pub kept_in_front : kept_edges (dominance []) attribute_end (edge (codes "&ab") 
 unfolding same_state
 kept_in_front = refl
 
-pub outdone_behind : kept_edges (dominance []) attribute_end (edge (codes "&b;") outside nothing ∷ edge (codes "&ab") outside decimal ∷ []) ≡ edge (codes "&b;") outside nothing ∷ []
+pub dominated_after : kept_edges (dominance []) attribute_end (edge (codes "&b;") outside nothing ∷ edge (codes "&ab") outside decimal ∷ []) ≡ edge (codes "&b;") outside nothing ∷ []
 unfolding same_state
-outdone_behind = refl
+dominated_after = refl
 
 -- brackets in a section aren't forgotten
 pub of_brackets : kept_edges (dominance []) attribute_end (edge (codes "a") in_section nothing ∷ edge (codes "]]") in_section two_brackets ∷ []) ≡ edge (codes "a") in_section nothing ∷ edge (codes "]]") in_section two_brackets ∷ []
@@ -78,7 +78,7 @@ of_brackets = refl
 
 -- the edges that open this value of an attribute `a`, without those that are dominated
 abbrev opened : List Entry → List ℕ → List Edge
-opened t v = kept_edges (dominance t) (attribute_name (codes "a") v) (opening_edges false true (codes "a") (state behind_name nothing))
+opened t v = kept_edges (dominance t) (attribute_name (codes "a") v) (opening_edges false true (codes "a") (state after_name nothing))
 
 abbrev bare : Edge
 bare = edge (codes " a=") in_unquoted nothing
@@ -115,9 +115,9 @@ unfolding same_state is_barred is_space
 of_double_quotes = refl
 
 -- `&lt` takes as much as the quotes do, where the table has it
-pub of_dear_less_than : opened [] (codes "1<2") ≡ double_quoted ∷ []
+pub of_costly_less_than : opened [] (codes "1<2") ≡ double_quoted ∷ []
 unfolding same_state is_barred is_space
-of_dear_less_than = refl
+of_costly_less_than = refl
 
 pub of_cheap_less_than : opened seven (codes "1<2") ≡ bare ∷ double_quoted ∷ []
 unfolding same_state is_barred is_space

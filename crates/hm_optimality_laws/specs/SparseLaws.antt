@@ -8,7 +8,7 @@ use Rattle.hm_graph_laws.specs.Prices.{Row, Feasible, first_price}
 use Rattle.hm_graph_laws.specs.UnitEdges.{edges_of}
 use Rattle.hm_graph_laws.specs.Ways.{Edges, Way, least, first_way}
 use Rattle.hm_optimality_laws.specs.Forms.{value_and}
-use Rattle.hm_optimality_laws.specs.Outdone.{Dominance, dominance, may_forget, forgotten, sparse}
+use Rattle.hm_optimality_laws.specs.Dominated.{Dominance, dominance, may_forget, forgotten, sparse}
 use Rattle.hm_refs.specs.Names.{Entry}
 use Rattle.hm_refs.specs.Tables.{IsTable}
 use Rattle.hm_spelling_spec.specs.Spellings.{Shortest}
@@ -62,7 +62,7 @@ Replaces es units fewer e f = (b : List ℕ) → Way es units e.to b → HasWayI
 -- it stands after it.
 abbrev pub LosesNothing : Dominance → Edges → Type 0
 LosesNothing d es =
-    (unit : Unit) (units : List Unit) → IsFollowed unit units → (e f : Edge) → (d.in_front unit e f ≡ true → Replaces es units 0 e f) × (d.behind unit e f ≡ true → Replaces es units 1 e f)
+    (unit : Unit) (units : List Unit) → IsFollowed unit units → (e f : Edge) → (d.in_front unit e f ≡ true → Replaces es units 0 e f) × (d.after unit e f ≡ true → Replaces es units 1 e f)
 
 -- what a table's dominance leaves out
 abbrev pub DominanceLosesNothing : Type 0
@@ -82,8 +82,8 @@ PricesBound d es =
     (units : List Unit) → HaveValues units → (prices : List Row) (n : ℕ) (b : List ℕ) → Feasible (sparse d es) units prices → first_price prices ≡ Some n → Way es units first_state b → n ≤ length b
 
 -- over any edges, with any tests that lose nothing
-abbrev pub OutdoneEdgesAreNeedless : Type 0
-OutdoneEdgesAreNeedless = (d : Dominance) (es : Edges) → LosesNothing d es → SameLeast d es × (SameFirstWay d es × PricesBound d es)
+abbrev pub DominatedEdgesAreNeedless : Type 0
+DominatedEdgesAreNeedless = (d : Dominance) (es : Edges) → LosesNothing d es → SameLeast d es × (SameFirstWay d es × PricesBound d es)
 
 -- over the edges of the graph of spellings
 abbrev pub SparseLeastIsLeast : Type 0

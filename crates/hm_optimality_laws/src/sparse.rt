@@ -1,5 +1,5 @@
 //! Laws over the graph of sparse certificates. The functions do nothing.
-ghost use Rattle.hm_optimality_laws.specs.SparseLaws.{DominanceLosesNothing, ForgettingIsNoLoss, OutdoneEdgesAreNeedless, SparseFirstWayIsFirst, SparseLeastIsLeast, SparsePricesBound, SparsePricesShow, TreesHaveValues};
+ghost use Rattle.hm_optimality_laws.specs.SparseLaws.{DominanceLosesNothing, ForgettingIsNoLoss, DominatedEdgesAreNeedless, SparseFirstWayIsFirst, SparseLeastIsLeast, SparsePricesBound, SparsePricesShow, TreesHaveValues};
 
 /// Wherever what is pending may be forgotten, nothing pending is no worse.
 pub fn forgetting_is_no_loss()
@@ -18,8 +18,8 @@ pub fn dominance_loses_nothing()
 
 /// Over any edges and by any tests that lose nothing, those that are dominated (outdone) change neither prices nor the first way.
 /// Prices that keep the rules without them bound every way.
-pub fn outdone_edges_are_needless()
-    ensures { OutdoneEdgesAreNeedless }
+pub fn dominated_edges_are_needless()
+    ensures { DominatedEdgesAreNeedless }
 {}
 
 /// The least prices are the same without the edges that are dominated.

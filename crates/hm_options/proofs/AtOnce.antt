@@ -4,7 +4,7 @@ use Rattle.std.proofs.lemmas.Bool.{and_parts, not-true}
 use Rattle.std.proofs.lemmas.Grind.{flat_map-append}
 use Rattle.std.proofs.lemmas.List.{append-nil, map-append}
 use Rattle.hm_base.specs.Bytes.{is_null}
-use Rattle.hm_base.specs.Walks.{Event, doctype, start, text, comment, end, Attribute, Element, path_behind, text_before, pushed, pushes, begins_text}
+use Rattle.hm_base.specs.Walks.{Event, doctype, start, text, comment, end, Attribute, Element, path_after_event, text_before, pushed, pushes, begins_text}
 use Rattle.hm_base.specs.declared.plain.TreeOptions.{TreeOptions}
 use Rattle.hm_elements.specs.Attributes.{is_redundant}
 use Rattle.hm_options.specs.Passes.{valued, attribute_pass, changed, kept, event_pass, passed, all_but_space}
@@ -34,7 +34,7 @@ redundants b = record { doctype = false; comments = false; booleans = false; emp
 by_each : (f : Rewrite) (g : Event → Event) → ((path : List Element) (before : Option Event) (e : Event) (next : Option Event) → f path before e next ≡ g e ∷ []) → (path : List Element) (before : Option Event) (w : List Event)
     → rewritten f path before w ≡ map g w
 by_each f g one path before [] = refl
-by_each f g one path before (e ∷ w) = rw (one path before e (first_event w)) (ap (λ v. g e ∷ v) (by_each f g one (path_behind path e) (Some e) w))
+by_each f g one path before (e ∷ w) = rw (one path before e (first_event w)) (ap (λ v. g e ∷ v) (by_each f g one (path_after_event path e) (Some e) w))
 
 same_attributes : (n : List ℕ) (attributes : List Attribute) → flat_map (attribute_pass (doctypes false) n) attributes ≡ attributes
 same_attributes n attributes = sym (same_list (attribute_pass (doctypes false) n) (λ a. refl) attributes)
@@ -107,7 +107,7 @@ module _ (o : TreeOptions) where
       let rest = flat_map (attribute_pass (empties o.empty) n) (flat_map (attribute_pass (booleans o.booleans) n) (flat_map (attribute_pass (doctypes o.doctype) n) attributes)) in
       flat_map-append (attribute_pass (redundants o.redundant) n) (attribute_pass (empties o.empty) n v) rest
       ∙ ap (λ front. front ++ flat_map (attribute_pass (redundants o.redundant) n) rest) (dropped_by n v (attribute_pass (redundants o.redundant) n) (o.empty && is_empty v) (o.redundant && is_redundant n v) refl)
-      ∙ ap (λ behind. attribute_pass o n a ++ behind) (attributes_at_once n attributes)
+      ∙ ap (λ after. attribute_pass o n a ++ after) (attributes_at_once n attributes)
 
   changed_at_once : (e : Event) → changed (redundants o.redundant) (changed (empties o.empty) (changed (booleans o.booleans) (changed (doctypes o.doctype) e))) ≡ changed o e
   changed_at_once (doctype legacy) = refl
@@ -157,7 +157,7 @@ module _ (o : TreeOptions) where
 
   passed_each : (path : List Element) (before : Option Event) (w : List Event) → rewritten (event_pass o) path before w ≡ map (changed o) (flat_map (kept o.comments) w)
   passed_each path before [] = refl
-  passed_each path before (e ∷ w) = rw (passed_each (path_behind path e) (Some e) w) (sym (map-append (changed o) (kept o.comments e) (flat_map (kept o.comments) w)))
+  passed_each path before (e ∷ w) = rw (passed_each (path_after_event path e) (Some e) w) (sym (map-append (changed o) (kept o.comments e) (flat_map (kept o.comments) w)))
 
 one_kept : (path : List Element) (before : Option Event) (e : Event) (next : Option Event) → no_comment path before e next ≡ kept true e
 one_kept path before (doctype legacy) next = refl
@@ -168,7 +168,7 @@ one_kept path before (end n foreign) next = refl
 
 kept_each : (path : List Element) (before : Option Event) (w : List Event) → rewritten no_comment path before w ≡ flat_map (kept true) w
 kept_each path before [] = refl
-kept_each path before (e ∷ w) = rw (one_kept path before e (first_event w)) (ap (λ v. kept true e ++ v) (kept_each (path_behind path e) (Some e) w))
+kept_each path before (e ∷ w) = rw (one_kept path before e (first_event w)) (ap (λ v. kept true e ++ v) (kept_each (path_after_event path e) (Some e) w))
 
 all_kept : (w : List Event) → flat_map (kept false) w ≡ w
 all_kept [] = refl
@@ -203,10 +203,10 @@ joined_by : (flag : Bool) (w : List Event) → are_texts_apart w ≡ true → pu
 joined_by true w h = ap (λ v. pushes v []) (sym (kept_each [] None w))
 joined_by false w h = ap (λ v. pushes v []) (all_kept w) ∙ pushes_apart w h
 
-comments_behind : (flag : Bool) (o : TreeOptions) (w : List Event) → where_set flag uncommented (map (changed o) w) ≡ map (changed o) (where_set flag uncommented w)
-comments_behind true o w =
+comments_after : (flag : Bool) (o : TreeOptions) (w : List Event) → where_set flag uncommented (map (changed o) w) ≡ map (changed o) (where_set flag uncommented w)
+comments_after true o w =
     ap (λ v. pushes v []) (kept_each [] None (map (changed o) w) ∙ all_kept_changed o w) ∙ pushes_changed o (flat_map (kept true) w) ∙ ap (λ v. map (changed o) (pushes v [])) (sym (kept_each [] None w))
-comments_behind false o w = refl
+comments_after false o w = refl
 
 -- the pass makes what the rewrites make in their order
 pub at_once : (o : TreeOptions) (w : List Event) → are_texts_apart w ≡ true → passed o w ≡ all_but_space o w
@@ -217,7 +217,7 @@ at_once o w h =
     let d = where_set o.empty (by (with_attributes no_empty)) c in
     let u = where_set o.comments uncommented w in
     let first : a ≡ map (changed (doctypes o.doctype)) w = where_each o.doctype plain_doctype doctypes one_doctype refl w in
-    let second : b ≡ map (changed (doctypes o.doctype)) u = ap (where_set o.comments uncommented) first ∙ comments_behind o.comments (doctypes o.doctype) w in
+    let second : b ≡ map (changed (doctypes o.doctype)) u = ap (where_set o.comments uncommented) first ∙ comments_after o.comments (doctypes o.doctype) w in
     let third : c ≡ map (changed (booleans o.booleans)) b = where_each o.booleans (with_attributes no_boolean_values) booleans (one_start no_boolean_values (booleans true) refl no_values) refl b in
     let fourth : d ≡ map (changed (empties o.empty)) c = where_each o.empty (with_attributes no_empty) empties (one_start no_empty (empties true) refl none_empty) refl c in
     let fifth : all_but_space o w ≡ map (changed (redundants o.redundant)) d = where_each o.redundant (with_attributes no_redundant) redundants (one_start no_redundant (redundants true) refl none_redundant) refl d in

@@ -6,7 +6,7 @@ use Rattle.hm_elements.specs.Names.{html, head, body}
 use Rattle.hm_elements.specs.Tables.{is_root}
 use Rattle.hm_elements.specs.Paths.{html_element, outer}
 use Rattle.hm_elements.specs.Settled.{is_html, Settled}
-use Rattle.hm_elements.specs.Places.{AttributesAllowed, ElementAllowed, RootAllowed, TextAllowed, CommentAllowed, html_path, SettledLast, SettledBehindBody, SettledInside, SettledBeforeBody, SettledBeforeHead, SettledBeforeHtml, SettledPage}
+use Rattle.hm_elements.specs.Places.{AttributesAllowed, ElementAllowed, RootAllowed, TextAllowed, CommentAllowed, html_path, SettledLast, SettledAfterBody, SettledInside, SettledBeforeBody, SettledBeforeHead, SettledBeforeHtml, SettledPage}
 use Rattle.hm_elements.proofs.Chain.{Inside, at_root, deeper, inside_is_open, no_root_is_other, html_is_itself, head_is_root, body_is_root, settled_page}
 use Rattle.hm_elements.proofs.Events.{start_is_no_root}
 use Rattle.hm_elements.proofs.Gathered.{page_settles}
@@ -59,13 +59,13 @@ fine_last (start n foreign attributes ∷ w) h = absurd h
 fine_last (text s raw ∷ w) h = absurd h
 fine_last (end n foreign ∷ w) h = absurd h
 
-fine_behind_body : (w : List Event) → SettledBehindBody w → Fine html_path w
-fine_behind_body [] h = absurd h
-fine_behind_body (comment s ∷ w) h = (h.0, fine_behind_body w h.1)
-fine_behind_body (end n foreign ∷ w) h = fine_last w h.2
-fine_behind_body (doctype legacy ∷ w) h = absurd h
-fine_behind_body (start n foreign attributes ∷ w) h = absurd h
-fine_behind_body (text s raw ∷ w) h = absurd h
+fine_after_body : (w : List Event) → SettledAfterBody w → Fine html_path w
+fine_after_body [] h = absurd h
+fine_after_body (comment s ∷ w) h = (h.0, fine_after_body w h.1)
+fine_after_body (end n foreign ∷ w) h = fine_last w h.2
+fine_after_body (doctype legacy ∷ w) h = absurd h
+fine_after_body (start n foreign attributes ∷ w) h = absurd h
+fine_after_body (text s raw ∷ w) h = absurd h
 
 -- an element inside a root is deeper inside it
 start_inside : (root : List ℕ) → is_root root ≡ true → (path : List Element) → Inside root path → (n : List ℕ) (foreign : Bool) (attributes : List Attribute) (w : List Event) → ElementAllowed n foreign path w → Inside root (element_of n foreign ∷ path)
@@ -86,7 +86,7 @@ fine_before_body (text s raw ∷ w) h = (h.0, (λ e. h.1), fine_before_body w h.
 fine_before_body (comment s ∷ w) h = (h.0, fine_before_body w h.1)
 fine_before_body (start n foreign attributes ∷ w) h =
     let a : RootAllowed body n foreign attributes = h.0 in
-    rw (a.name, a.kind) (a.attributes_allowed, fine_inside body body_is_root SettledBehindBody fine_behind_body w (html_element body ∷ html_path) at_root h.1)
+    rw (a.name, a.kind) (a.attributes_allowed, fine_inside body body_is_root SettledAfterBody fine_after_body w (html_element body ∷ html_path) at_root h.1)
 fine_before_body (doctype legacy ∷ w) h = absurd h
 fine_before_body (end n foreign ∷ w) h = absurd h
 
@@ -132,14 +132,14 @@ last_stays (start n foreign attributes ∷ w) v h b = absurd h
 last_stays (text s raw ∷ w) v h b = absurd h
 last_stays (end n foreign ∷ w) v h b = absurd h
 
-behind_body_stays : (w v : List Event) → SettledBehindBody w → Becomes html_path w v → SettledBehindBody v
-behind_body_stays [] v h b = absurd h
-behind_body_stays (comment s ∷ w) v h (inl b) = behind_body_stays w v h.1 b
-behind_body_stays (comment s ∷ w) v h (inr (rest, is, b)) = rw is (h.0, behind_body_stays w rest h.1 b)
-behind_body_stays (end n foreign ∷ w) v h (rest, is, b) = rw is (h.0, h.1, last_stays w rest h.2 b)
-behind_body_stays (doctype legacy ∷ w) v h b = absurd h
-behind_body_stays (start n foreign attributes ∷ w) v h b = absurd h
-behind_body_stays (text s raw ∷ w) v h b = absurd h
+after_body_stays : (w v : List Event) → SettledAfterBody w → Becomes html_path w v → SettledAfterBody v
+after_body_stays [] v h b = absurd h
+after_body_stays (comment s ∷ w) v h (inl b) = after_body_stays w v h.1 b
+after_body_stays (comment s ∷ w) v h (inr (rest, is, b)) = rw is (h.0, after_body_stays w rest h.1 b)
+after_body_stays (end n foreign ∷ w) v h (rest, is, b) = rw is (h.0, h.1, last_stays w rest h.2 b)
+after_body_stays (doctype legacy ∷ w) v h b = absurd h
+after_body_stays (start n foreign attributes ∷ w) v h b = absurd h
+after_body_stays (text s raw ∷ w) v h b = absurd h
 
 element_stays : (path : List Element) (n : List ℕ) (foreign : Bool) (w v : List Event) → (begins_end w ≡ true → begins_end v ≡ true) → ElementAllowed n foreign path w → ElementAllowed n foreign path v
 element_stays path n foreign w v ends (inl (e, s)) = inl (e, s)
@@ -194,7 +194,7 @@ before_body_stays (comment s ∷ w) v h (inl b) = before_body_stays w v h.1 b
 before_body_stays (comment s ∷ w) v h (inr (rest, is, b)) = rw is (h.0, before_body_stays w rest h.1 b)
 before_body_stays (start n foreign attributes ∷ w) v h (made, rest, is, allowed, ends, b) =
     let a : RootAllowed body n foreign attributes = h.0 in
-    rw is (root_stays body n foreign attributes made a allowed, inside_stays body body_is_root SettledBehindBody behind_body_stays w rest (html_element body ∷ html_path) at_root h.1 (rw (a.name, a.kind) at b))
+    rw is (root_stays body n foreign attributes made a allowed, inside_stays body body_is_root SettledAfterBody after_body_stays w rest (html_element body ∷ html_path) at_root h.1 (rw (a.name, a.kind) at b))
 before_body_stays (doctype legacy ∷ w) v h b = absurd h
 before_body_stays (end n foreign ∷ w) v h b = absurd h
 

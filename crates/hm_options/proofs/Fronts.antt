@@ -21,8 +21,8 @@ space_ascii c h = elim (cases_lt c 128) [
 pub before_space : (s : List ℕ) (i : ℕ) → i < length s → is_space (get_or s i 0) ≡ true → IsCharBoundary s i
 before_space s i within space = IsCharBoundary-before_ascii s i within (space_ascii (get_or s i 0) space)
 
-pub behind_one : (s : List ℕ) (i : ℕ) → IsUtf8 s → i < length s → is_space (get_or s i 0) ≡ true → IsCharBoundary s (i + 1)
-behind_one s i utf8 within space = IsCharBoundary-after_ascii s i utf8 within (space_ascii (get_or s i 0) space)
+pub after_one : (s : List ℕ) (i : ℕ) → IsUtf8 s → i < length s → is_space (get_or s i 0) ≡ true → IsCharBoundary s (i + 1)
+after_one s i utf8 within space = IsCharBoundary-after_ascii s i utf8 within (space_ascii (get_or s i 0) space)
 
 pub front_boundary : (s : List ℕ) (front : SpacedFront) → IsSpacedFront s front → IsCharBoundary s front.to
 front_boundary s front h = elim (cases_lt front.to (length s)) [
@@ -73,7 +73,7 @@ steady_more s at width end before some inside h are k low high = by_test (nat_lt
     by_test : (b : Bool) → nat_lt k at ≡ b → changes (is_space (get_or s (k - 1) 0)) (get_or s k 0) ≡ false
     by_test true e = h k low (grind arith)
     by_test false e =
-        let behind : at ≤ k = grind arith in
+        let after : at ≤ k = grind arith in
         let here : List ℕ = take (at + width - at) (drop at s) in
         let earlier : List ℕ = take (end - (at - 1)) (drop (at - 1) s) in
         let short : k - at < at + width - at = omega arith in

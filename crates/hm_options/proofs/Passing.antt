@@ -4,7 +4,7 @@ use Rattle.std.proofs.lemmas.Bool.{and_parts}
 use Rattle.std.proofs.lemmas.List.{append-nil, drop-drop, drop_all, drop_more, length-drop}
 use Rattle.std.proofs.lemmas.Option.{get_or_from_slice_get, slice_get_within}
 use Rattle.hm_base.specs.Bytes.{is_null}
-use Rattle.hm_base.specs.Walks.{Event, doctype, start, text, comment, end, Element, begins_comment, begins_text, path_behind, text_before, pushed, pushes, event_size, walk_size}
+use Rattle.hm_base.specs.Walks.{Event, doctype, start, text, comment, end, Element, begins_comment, begins_text, path_after_event, text_before, pushed, pushes, event_size, walk_size}
 use Rattle.hm_base.specs.declared.plain.TreeOptions.{TreeOptions}
 use Rattle.hm_options.specs.Passes.{changed, kept, event_pass, passed}
 use Rattle.hm_options.specs.Passing.{IsCalm, IsChanged, IsPassing, begins_loose, loose_count, text_in, texts_of, with_touching}
@@ -62,11 +62,11 @@ apart_pushes (e ∷ w) h =
 -- what stands before an event says nothing of it
 any_place : (o : TreeOptions) (path other : List Element) (before last : Option Event) (w : List Event) → rewritten (event_pass o) path before w ≡ rewritten (event_pass o) other last w
 any_place o path other before last [] = refl
-any_place o path other before last (e ∷ w) = ap (λ v. event_pass o [] None e None ++ v) (any_place o (path_behind path e) (path_behind other e) (Some e) (Some e) w)
+any_place o path other before last (e ∷ w) = ap (λ v. event_pass o [] None e None ++ v) (any_place o (path_after_event path e) (path_after_event other e) (Some e) (Some e) w)
 
 pub passed_more : (o : TreeOptions) (e : Event) (w : List Event) → passed o (e ∷ w) ≡ pushes (event_pass o [] None e None) (passed o w)
 passed_more o e w =
-    ap (λ v. pushes (event_pass o [] None e None ++ v) []) (any_place o (path_behind [] e) [] (Some e) None w) ∙ pushes-append (event_pass o [] None e None) (by (event_pass o) w) []
+    ap (λ v. pushes (event_pass o [] None e None ++ v) []) (any_place o (path_after_event [] e) [] (Some e) None w) ∙ pushes-append (event_pass o [] None e None) (by (event_pass o) w) []
 
 kept_by : (b : Bool) (o : TreeOptions) (e : Event) (w : List Event) → b && begins_comment (e ∷ w) ≡ false → map (changed o) (kept b e) ≡ changed o e ∷ []
 kept_by true o (doctype legacy) w plain = refl

@@ -4,7 +4,7 @@ use Rattle.std.proofs.lemmas.Bool.{and_parts}
 use Rattle.std.proofs.lemmas.List.{append-nil, drop_all, take_all}
 use Rattle.std.proofs.lemmas.Str.{IsCharBoundary-from_drop, IsCharBoundary-from_rest, IsCharBoundary-from_take}
 use Rattle.hm_base.specs.Bytes.{is_null}
-use Rattle.hm_base.specs.Walks.{Event, doctype, start, text, comment, end, Element, begins_text, path_behind, path_after, ends_match}
+use Rattle.hm_base.specs.Walks.{Event, doctype, start, text, comment, end, Element, begins_text, path_after_event, path_after, ends_match}
 use Rattle.hm_options.specs.Fronts.{IsSpacedFront, spaced_text}
 use Rattle.hm_options.specs.Marks.{kept_count}
 use Rattle.hm_options.specs.Rewritten.{first_event, rewritten}
@@ -66,8 +66,8 @@ module _ (conservative : Bool) (w : List Event) (old new : Edited) (kept after :
   same true t = ap (λ x. collapsed_event conservative path x e (first_event l)) (h.last (ap begins_text is ∙ begins_so e l ∙ t))
   same false t = other_stays conservative path h.before (first_event l) e t ∙ sym (other_stays conservative path (last_event old.done) (first_event l) e t)
 
-  behind : path_after [] new.done ≡ path_behind path e
-  behind =
+  following : path_after [] new.done ≡ path_after_event path e
+  following =
       let es = collapsed_event conservative path (last_event old.done) e (first_event l) in
       ap (path_after []) becomes ∙ path_after-append [] old.done es ∙ (collapsed_no_longer conservative path (last_event old.done) (first_event l) e).path path
 
@@ -78,17 +78,17 @@ module _ (conservative : Bool) (w : List Event) (old new : Edited) (kept after :
       absurd (cc)
   last_then false t walk begins = sym (ap last_event (becomes ∙ ap (λ es. old.done ++ es) (other_stays conservative path (last_event old.done) (first_event l) e t)) ∙ last_event-push old.done e)
 
-  pub IsCollapsing-more : IsWalk (old.done ++ old.left) → after ≡ kept_count (path_behind path e) → IsCollapsing conservative w new after
+  pub IsCollapsing-more : IsWalk (old.done ++ old.left) → after ≡ kept_count (path_after_event path e) → IsCollapsing conservative w new after
   IsCollapsing-more walk counts =
       let es = collapsed_event conservative path (last_event old.done) e (first_event l) in
-      let rest = rewritten (collapsed_event conservative) (path_behind path e) (Some e) l in
+      let rest = rewritten (collapsed_event conservative) (path_after_event path e) (Some e) l in
       let one : rewritten (collapsed_event conservative) path h.before old.left ≡ es ++ rest =
       ap (rewritten (collapsed_event conservative) path h.before) is ∙ ap (λ x. x ++ rest) (same (begins_text (e ∷ [])) refl) in
       record {
         before = Some e;
-        whole = rw (behind, (step e l is).0, becomes) (append_assoc old.done es rest ∙ ap (λ x. old.done ++ x) (sym one) ∙ h.whole);
+        whole = rw (following, (step e l is).0, becomes) (append_assoc old.done es rest ∙ ap (λ x. old.done ++ x) (sym one) ∙ h.whole);
         last = last_then (begins_text (e ∷ [])) refl walk;
-        known = counts ∙ ap kept_count (sym behind);
+        known = counts ∙ ap kept_count (sym following);
       }
 
 pub collapsing_ends : (conservative : Bool) (w : List Event) (e : Edited) (kept : ℕ) → e.left ≡ [] → IsCollapsing conservative w e kept → e.done ≡ collapsed conservative w

@@ -1,6 +1,6 @@
 -- A walk rewritten event by event.
 use Rattle.std.specs.Prelude.{List, [], ◌∷◌, ◌++◌, Option, Some, None}
-use Rattle.hm_base.specs.Walks.{Event, Element, path_behind}
+use Rattle.hm_base.specs.Walks.{Event, Element, path_after_event}
 
 abbrev pub first_event : List Event → Option Event
 first_event [] = None
@@ -10,4 +10,4 @@ first_event (e ∷ w) = Some e
 -- after it. All of these are those of the walk before the rewrite.
 abbrev pub rewritten : (List Element → Option Event → Event → Option Event → List Event) → List Element → Option Event → List Event → List Event
 rewritten f path before [] = []
-rewritten f path before (e ∷ w) = f path before e (first_event w) ++ rewritten f (path_behind path e) (Some e) w
+rewritten f path before (e ∷ w) = f path before e (first_event w) ++ rewritten f (path_after_event path e) (Some e) w

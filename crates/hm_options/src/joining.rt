@@ -7,7 +7,7 @@ ghost use Rattle.hm_tree.specs.Edits.{without_first};
 ghost use Rattle.hm_tree.specs.Trees.{IsWalk};
 ghost use Rattle.hm_tree.specs.Views.{event_of};
 
-use hm_base::Memory;
+use hm_base::OutOfMemory;
 use hm_tree::{Editor, EventView};
 
 fn is_loose(event: &EventView<'_>) -> bool
@@ -63,7 +63,7 @@ fn text_at(editor: &Editor, count: u32) -> &str
 }
 
 // Puts the bytes of the texts among the next `count` events into a text.
-fn gather(editor: &Editor, count: u32, texts: &mut String) -> Result<(), Memory>
+fn gather(editor: &Editor, count: u32, texts: &mut String) -> Result<(), OutOfMemory>
     requires { 0 < length editor.now.left }
     ensures { OnOk result (string_bytes texts.new ≡ texts_of (take count editor.now.left)) }
 {
@@ -75,7 +75,7 @@ fn gather(editor: &Editor, count: u32, texts: &mut String) -> Result<(), Memory>
 }
 
 // Joins the next event, a text, with the texts that touch it once the comments between them are left out.
-pub(crate) fn join_next(editor: &mut Editor, scratch: &mut String) -> Result<(), Memory>
+pub(crate) fn join_next(editor: &mut Editor, scratch: &mut String) -> Result<(), OutOfMemory>
     requires text { begins_text editor.old.left ≡ true }
     requires walk { IsWalk (editor.old.done ++ editor.old.left) }
     ensures done { OnOk result (editor.new.done ≡ editor.old.done) }

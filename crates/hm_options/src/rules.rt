@@ -9,12 +9,16 @@ ghost use Rattle.hm_tree.specs.Views.{event_of};
 
 use crate::attributes::change_start;
 use crate::joining::join_next;
-use hm_base::{Memory, TreeOptions};
+use hm_base::{OutOfMemory, TreeOptions};
 use hm_tree::{Editor, EventView, Tree};
 use std::alloc::Global;
 
 // The tree with each event rewritten, where texts that then touch are joined.
-pub(crate) fn rewritten(alloc: Global, tree: Tree, options: &TreeOptions) -> Result<Tree, Memory>
+pub(crate) fn rewritten(
+    alloc: Global,
+    tree: Tree,
+    options: &TreeOptions,
+) -> Result<Tree, OutOfMemory>
     ensures { IfOk result (λ made. made ≡ passed options.now tree) }
 {
     let mut editor = tree.edit();
@@ -31,7 +35,11 @@ pub(crate) fn rewritten(alloc: Global, tree: Tree, options: &TreeOptions) -> Res
 }
 
 // Makes of the next event what it becomes.
-fn edit_next(editor: &mut Editor, scratch: &mut String, options: &TreeOptions) -> Result<(), Memory>
+fn edit_next(
+    editor: &mut Editor,
+    scratch: &mut String,
+    options: &TreeOptions,
+) -> Result<(), OutOfMemory>
     requires some { 0 < length editor.old.left }
     requires walk { IsWalk (editor.old.done ++ editor.old.left) }
     requires calm { IsCalm options.now editor.old }
@@ -57,7 +65,7 @@ fn change_next(
     editor: &mut Editor,
     scratch: &mut String,
     options: &TreeOptions,
-) -> Result<(), Memory>
+) -> Result<(), OutOfMemory>
     requires some { 0 < length editor.old.left }
     requires walk { IsWalk (editor.old.done ++ editor.old.left) }
     requires stays { options.now.comments && begins_comment editor.old.left ≡ false }
@@ -88,7 +96,7 @@ fn change_text(
     editor: &mut Editor,
     scratch: &mut String,
     options: &TreeOptions,
-) -> Result<(), Memory>
+) -> Result<(), OutOfMemory>
     requires text { begins_text editor.old.left ≡ true }
     requires walk { IsWalk (editor.old.done ++ editor.old.left) }
     ensures done { OnOk result (editor.new.done ≡ editor.old.done) }

@@ -5,7 +5,7 @@ ghost use Rattle.hm_options.specs.Fronts as fronts;
 ghost use Rattle.hm_options.specs.Fronts.{AreSteady, IsSpacedFront, IsSteady};
 ghost use Rattle.hm_options.specs.Space.{spaced, without_leading, without_trailing};
 
-use hm_base::{Memory, is_space};
+use hm_base::{OutOfMemory, is_space};
 
 // A prefix of a text that stays as it is where each longest run of whitespace becomes one space. It goes up to byte
 // `to`, where the text ends or whitespace begins that changes; `after` says whether a space stands directly before.
@@ -108,7 +108,7 @@ pub(crate) fn spaced_front(bytes: &[u8]) -> SpacedFront
 }
 
 // The text without its leading whitespace.
-fn behind_space(text: &str) -> &str
+fn after_space(text: &str) -> &str
     ensures same { spaced true text.now ≡ spaced false result.now }
     ensures shorter { length result.now ≤ length text.now }
 {
@@ -121,7 +121,7 @@ fn behind_space(text: &str) -> &str
 }
 
 // Appends the text with each longest run of whitespace as one space.
-pub(crate) fn push_spaced(out: &mut String, text: &str) -> Result<(), Memory>
+pub(crate) fn push_spaced(out: &mut String, text: &str) -> Result<(), OutOfMemory>
     ensures { OnOk result (string_bytes out.new ≡ string_bytes out.old ++ spaced false text.now) }
 {
     let mut rest = text;
@@ -134,7 +134,7 @@ pub(crate) fn push_spaced(out: &mut String, text: &str) -> Result<(), Memory>
         if !front.after {
             out.push_str(" ")?;
         }
-        rest = behind_space(&rest[front.to + 1..]);
+        rest = after_space(&rest[front.to + 1..]);
     }
 }
 

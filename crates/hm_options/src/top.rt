@@ -8,12 +8,12 @@ ghost use Rattle.hm_options.specs.Space.{collapsed};
 
 use crate::collapse;
 use crate::rules::rewritten;
-use hm_base::{Memory, TreeOptions};
+use hm_base::{OutOfMemory, TreeOptions};
 use hm_tree::Tree;
 use std::alloc::Global;
 
 /// The tree that the options ask for. Where nothing is asked for it is handed back as it is.
-pub fn rewrite(alloc: Global, tree: Tree, options: &TreeOptions) -> Result<Tree, Memory>
+pub fn rewrite(alloc: Global, tree: Tree, options: &TreeOptions) -> Result<Tree, OutOfMemory>
     ensures ok { IfOk result (λ made. made ≡ rewrites.rewrite options.now tree) }
     ensures settled { Settled tree → IfOk result (λ made. Settled made) }
 {
@@ -23,7 +23,7 @@ pub fn rewrite(alloc: Global, tree: Tree, options: &TreeOptions) -> Result<Tree,
 }
 
 // Makes one pass for all rewrites but the one of whitespace.
-fn by_events(alloc: Global, tree: Tree, options: &TreeOptions) -> Result<Tree, Memory>
+fn by_events(alloc: Global, tree: Tree, options: &TreeOptions) -> Result<Tree, OutOfMemory>
     ensures { IfOk result (λ made. made ≡ all_but_space options.now tree) }
 {
     if options.doctype
@@ -41,7 +41,7 @@ fn by_events(alloc: Global, tree: Tree, options: &TreeOptions) -> Result<Tree, M
     }
 }
 
-fn by_space(alloc: Global, tree: Tree, set: bool, conservative: bool) -> Result<Tree, Memory>
+fn by_space(alloc: Global, tree: Tree, set: bool, conservative: bool) -> Result<Tree, OutOfMemory>
     ensures { IfOk result (λ made. made ≡ where_set set (collapsed conservative) tree) }
 {
     if set {

@@ -1,7 +1,7 @@
 //! The whitespace of a tree.
 ghost use Rattle.std.specs.Prelude.{◌≡◌, ◌<◌, ◌≤◌, ◌+◌, ◌^◌, [], ◌∷◌, ◌++◌, length, take, slice_get, slice_range, true, false, Some, IfOk, OnOk, List};
 ghost use Rattle.hm_base.specs.Bytes.{is_null};
-ghost use Rattle.hm_base.specs.Walks.{Element, path_after, path_behind, ends_match};
+ghost use Rattle.hm_base.specs.Walks.{Element, path_after, path_after_event, ends_match};
 ghost use Rattle.hm_elements.specs.Nesting.{is_name};
 ghost use Rattle.hm_elements.specs.Names.{head};
 ghost use Rattle.hm_elements.specs.Paths.{current_name};
@@ -20,7 +20,7 @@ use crate::spaces::{
     begins_with_space, ends_with_space, push_spaced, spaced_front, without_leading,
     without_trailing,
 };
-use hm_base::Memory;
+use hm_base::OutOfMemory;
 use hm_elements::{is_block, is_space_parent, same_name};
 use hm_tree::{Editor, EventView, Tree};
 use std::alloc::Global;
@@ -29,7 +29,7 @@ use std::alloc::Global;
 /// longest run of whitespace becomes one space. Unless `conservative` is set, more is done. A text that is one space is
 /// left out directly in elements that don't show it, such as `ul` and `table`. Any other text loses a space at the edge
 /// of a block.
-pub fn collapse(alloc: Global, tree: Tree, conservative: bool) -> Result<Tree, Memory>
+pub fn collapse(alloc: Global, tree: Tree, conservative: bool) -> Result<Tree, OutOfMemory>
     ensures ok { IfOk result (λ made. made ≡ collapsed conservative tree) }
     ensures settled { Settled tree → IfOk result (λ made. Settled made) }
 {
@@ -39,7 +39,7 @@ pub fn collapse(alloc: Global, tree: Tree, conservative: bool) -> Result<Tree, M
     for _ in 0..editor.left() {
         // With what is done, what is left is a walk.
         editor.left();
-        let after = kept_behind(kept, &editor.next());
+        let after = kept_after(kept, &editor.next());
         edit_next(&mut editor, &mut scratch, kept, conservative)?;
         kept = after;
     }
@@ -47,9 +47,9 @@ pub fn collapse(alloc: Global, tree: Tree, conservative: bool) -> Result<Tree, M
 }
 
 // How many of the elements that are open after an event keep their whitespace.
-fn kept_behind(kept: u32, event: &EventView<'_>) -> u32
+fn kept_after(kept: u32, event: &EventView<'_>) -> u32
     requires { kept + 1 < 2 ^ 32 }
-    ensures { (path : List Element) → ends_match path (event_of event.now ∷ []) ≡ true → kept ≡ kept_count path → result ≡ kept_count (path_behind path (event_of event.now)) }
+    ensures { (path : List Element) → ends_match path (event_of event.now ∷ []) ≡ true → kept ≡ kept_count path → result ≡ kept_count (path_after_event path (event_of event.now)) }
 {
     match event {
         EventView::Start { name, foreign, .. } if keeps_space(name, *foreign) => kept + 1,
@@ -78,7 +78,7 @@ fn is_edge_before(editor: &Editor) -> bool
 }
 
 // Whether the event after the next one is the start or the end of a block.
-fn is_edge_behind(editor: &Editor) -> bool
+fn is_edge_after(editor: &Editor) -> bool
     requires { 0 < length editor.now.left }
     ensures { result ≡ space.is_edge (slice_get editor.now.left 1) }
 {
@@ -125,7 +125,7 @@ fn edit_next(
     scratch: &mut String,
     kept: u32,
     conservative: bool,
-) -> Result<(), Memory>
+) -> Result<(), OutOfMemory>
     requires some { 0 < length editor.old.left }
     requires walk { IsWalk (editor.old.done ++ editor.old.left) }
     requires kept { kept ≡ kept_count (path_after [] editor.old.done) }
@@ -164,7 +164,7 @@ fn keep_seen(editor: &mut Editor, seen: Seen)
 }
 
 // Puts what is seen of a text, whose runs of whitespace are single spaces, in place of the next event.
-fn put_seen(editor: &mut Editor, text: &str, conservative: bool) -> Result<(), Memory>
+fn put_seen(editor: &mut Editor, text: &str, conservative: bool) -> Result<(), OutOfMemory>
     requires first { plain_text_first editor.old.left ≡ true }
     requires some { is_null text.now ≡ false }
     requires shorter { length text.now ≤ length (first_text editor.old.left) }
@@ -230,7 +230,7 @@ fn end_trimmed<'t>(text: &'t str, editor: &Editor) -> &'t str
     ensures { result.now ≡ without_trailing (space.is_edge (slice_get editor.now.left 1)) text.now }
 {
     if ends_with_space(text) {
-        without_trailing(text, is_edge_behind(editor))
+        without_trailing(text, is_edge_after(editor))
     } else {
         text
     }

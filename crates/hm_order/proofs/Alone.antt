@@ -32,7 +32,7 @@ one_more n None = refl
 one_more n (Some a) = ap Some (omega arith)
 
 abbrev form : ℕ → Option ℕ → ℕ → Option ℕ
-form n v behind = over n (plus v (Some behind))
+form n v after = over n (plus v (Some after))
 
 three_more : (u : Bool) (n m : ℕ) (a b c : Option ℕ)
     → lesser (cond u (form n a 1) None) (lesser (form m b 1) (form m c 1)) ≡ over 1 (lesser (cond u (form n a 0) None) (lesser (form m b 0) (form m c 0)))
@@ -62,11 +62,11 @@ told_is n m h = by (n == 18446744073709551615) h
     by false h = cc
 
 -- the end tag after a tag that stands alone, which an element of HTML doesn't have
-abbrev behind_alone : SpellRules → Bool → List Unit
-behind_alone r false = []
-behind_alone r true = end_tag (element_alone true) (may_omit_end r (element_alone true) true [] []) (is_loose_end (element_alone true)) ∷ []
+abbrev after_alone : SpellRules → Bool → List Unit
+after_alone r false = []
+after_alone r true = end_tag (element_alone true) (may_omit_end r (element_alone true) true [] []) (is_loose_end (element_alone true)) ∷ []
 
-closes_alone : (r : SpellRules) (closes : Bool) → ClosesBefore closes (behind_alone r closes)
+closes_alone : (r : SpellRules) (closes : Bool) → ClosesBefore closes (after_alone r closes)
 closes_alone r false = tt
 closes_alone r true = (element_alone true, is_loose_end (element_alone true), [], ap (λ o. end_tag (element_alone true) o (is_loose_end (element_alone true)) ∷ []) (never r (element_alone true) [] []))
 
@@ -74,15 +74,15 @@ no_end_tag : is_void (element_alone false) ≡ true
 unfolding is_void is_among voids
 no_end_tag = refl
 
-units_alone : (r : SpellRules) (closes : Bool) (a : Attribute) → units_of r (walk_alone closes a) ≡ (tag_name (element_alone closes) ∷ (attribute_units (a ∷ []) ++ tag_close closes ∷ [])) ++ behind_alone r closes
+units_alone : (r : SpellRules) (closes : Bool) (a : Attribute) → units_of r (walk_alone closes a) ≡ (tag_name (element_alone closes) ∷ (attribute_units (a ∷ []) ++ tag_close closes ∷ [])) ++ after_alone r closes
 units_alone r false a = rw no_end_tag refl
 units_alone r true a = refl
 
-price_by : (g : Spelling) (closes : Bool) (a : Attribute) → least (edges_of g) (units_of g.rules (walk_alone closes a)) first_state ≡ over (length (element_alone closes) + 2) (plus (last_cost g closes a) (close_cost g closes (behind_alone g.rules closes)))
-price_by g false a = ap (λ us. least (edges_of g) us first_state) (units_alone g.rules false a ∙ tag_is (element_alone false) a [] false (behind_alone g.rules false)) ∙ tags_split g (element_alone false) a [] false (behind_alone g.rules false) first_state (closes_alone g.rules false)
-price_by g true a = ap (λ us. least (edges_of g) us first_state) (units_alone g.rules true a ∙ tag_is (element_alone true) a [] true (behind_alone g.rules true)) ∙ tags_split g (element_alone true) a [] true (behind_alone g.rules true) first_state (closes_alone g.rules true)
+price_by : (g : Spelling) (closes : Bool) (a : Attribute) → least (edges_of g) (units_of g.rules (walk_alone closes a)) first_state ≡ over (length (element_alone closes) + 2) (plus (last_cost g closes a) (close_cost g closes (after_alone g.rules closes)))
+price_by g false a = ap (λ us. least (edges_of g) us first_state) (units_alone g.rules false a ∙ tag_is (element_alone false) a [] false (after_alone g.rules false)) ∙ tags_split g (element_alone false) a [] false (after_alone g.rules false) first_state (closes_alone g.rules false)
+price_by g true a = ap (λ us. least (edges_of g) us first_state) (units_alone g.rules true a ∙ tag_is (element_alone true) a [] true (after_alone g.rules true)) ∙ tags_split g (element_alone true) a [] true (after_alone g.rules true) first_state (closes_alone g.rules true)
 
-close_alone : (g : Spelling) (closes : Bool) → over (length (element_alone closes) + 2) (close_cost g closes (behind_alone g.rules closes)) ≡ Some 5
+close_alone : (g : Spelling) (closes : Bool) → over (length (element_alone closes) + 2) (close_cost g closes (after_alone g.rules closes)) ≡ Some 5
 close_alone g false = refl
 close_alone g true = ap (λ us. over 3 (close_cost g true us)) (ap (λ o. end_tag (element_alone true) o (is_loose_end (element_alone true)) ∷ []) (never g.rules (element_alone true) [] []))
 
@@ -99,6 +99,6 @@ pub alone_costs : (g : Spelling) → SparesOnlyPlain g → (closes : Bool) (a : 
 alone_costs g plain closes a price h =
     let n : AreNumbers g closes _ _ = numbers g plain closes in
     let l : ℕ = last_of g plain closes a in
-    let close : Option ℕ = close_cost g closes (behind_alone g.rules closes) in
+    let close : Option ℕ = close_cost g closes (after_alone g.rules closes) in
     let is : price ≡ l + 5 = told_is price (l + 5) (h ∙ price_by g closes a ∙ ap (λ x. over (length (element_alone closes) + 2) (plus x close)) (n.last_is a) ∙ sum_five (length (element_alone closes) + 2) l close (close_alone g closes)) in
     record { long = omega (arith, is); cost = n.last_is a ∙ ap Some (omega (arith, is)) }

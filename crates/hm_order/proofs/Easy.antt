@@ -8,10 +8,10 @@ use Rattle.std.specs.Option.{option_map}
 use Rattle.hm_base.specs.Bytes.{is_space}
 use Rattle.hm_graph_laws.proofs.ChoiceLaws.{itself_fits, whole_of}
 use Rattle.hm_graph_laws.proofs.Runs.{run_fits}
-use Rattle.hm_graph_laws.specs.AttributeEdges.{closed_at, gap_at, is_behind_unquoted}
+use Rattle.hm_graph_laws.specs.AttributeEdges.{closed_at, gap_at, is_after_unquoted}
 use Rattle.hm_graph_laws.specs.CharacterEdges.{as_itself, by_references, Choice, choice, choices_by, itself_to, kept_at}
 use Rattle.hm_graph_laws.specs.ExchangeLaws.{sparing_plain}
-use Rattle.hm_graph_laws.specs.States.{behind_quoted, behind_unquoted, in_double, in_single, in_unquoted, nothing, less_than, hash, hash_x, decimal, hexadecimal, ampersand, named, half, one_bracket, two_brackets, Pending, State, state, value_spot, Where}
+use Rattle.hm_graph_laws.specs.States.{after_quoted, after_unquoted, in_double, in_single, in_unquoted, nothing, less_than, hash, hash_x, decimal, hexadecimal, ampersand, named, half, one_bracket, two_brackets, Pending, State, state, value_spot, Where}
 use Rattle.hm_graph_laws.specs.Steps.{Fits, FitsAfter, may_end, run, step}
 use Rattle.hm_graph_laws.specs.UnitEdges.{edges_of}
 use Rattle.hm_graph_laws.specs.Units.{attribute_end, character, character_units, in_value, next_of, Unit}
@@ -313,9 +313,9 @@ lesser_second : (p : Option ℕ) (a : ℕ) → AtLeast a p → lesser p (Some a)
 lesser_second None a h = refl
 lesser_second (Some b) a h = ap Some (omega (arith, h))
 
-pub easy_costs : (t : List Entry) → IsTable t → (r : SpellRules) (low : Bool) (behind : Where → ℕ) (name : List ℕ) (c : ℕ) (s : List ℕ) → AreEasy t r.ascii low (chars (c ∷ s)) → are_literal t (chars (c ∷ s)) ≡ true → behind behind_unquoted ≤ 1 → behind behind_quoted ≤ behind behind_unquoted
-    → cost_of (sparing_plain t r) behind name (c ∷ s) ≡ Some (easy_cost (r.unquote && not (some_barred (chars (c ∷ s)))) (length name) (total size (chars (c ∷ s))) (behind behind_unquoted) (behind behind_quoted))
-easy_costs t table r low behind name c s easy read few less = by r.unquote (some_barred (chars (c ∷ s))) refl
+pub easy_costs : (t : List Entry) → IsTable t → (r : SpellRules) (low : Bool) (after : Where → ℕ) (name : List ℕ) (c : ℕ) (s : List ℕ) → AreEasy t r.ascii low (chars (c ∷ s)) → are_literal t (chars (c ∷ s)) ≡ true → after after_unquoted ≤ 1 → after after_quoted ≤ after after_unquoted
+    → cost_of (sparing_plain t r) after name (c ∷ s) ≡ Some (easy_cost (r.unquote && not (some_barred (chars (c ∷ s)))) (length name) (total size (chars (c ∷ s))) (after after_unquoted) (after after_quoted))
+easy_costs t table r low after name c s easy read few less = by r.unquote (some_barred (chars (c ∷ s))) refl
   where
     v : List ℕ
     v = c ∷ s
@@ -327,10 +327,10 @@ easy_costs t table r low behind name c s easy read few less = by r.unquote (some
     l = length name
 
     u : ℕ
-    u = behind behind_unquoted
+    u = after after_unquoted
 
     q : ℕ
-    q = behind behind_quoted
+    q = after after_quoted
 
     quoted : lesser (over (l + 2) (plus (value_cost (sparing_plain t r) in_double v) (Some q))) (over (l + 2) (plus (value_cost (sparing_plain t r) in_single v) (Some q))) ≡ Some (l + 2 + (n + 1 + q))
     quoted =
@@ -364,22 +364,22 @@ inner_easy t table r low name [] utf8 some easy read = absurd (omega (arith, som
 inner_easy t table r low name (c ∷ s) utf8 some easy read =
     ap (λ x. cost_of (sparing_plain t r) (λ at. length (gap_at x at)) name (c ∷ s)) refl
     ∙ easy_costs t table r low (λ at. length (gap_at r.tight at)) name c s easy read (gap_few r.tight) (gap_less r.tight)
-    ∙ ap (λ n. Some (easy_cost (r.unquote && not (some_barred (chars (c ∷ s)))) (length name) n (length (gap_at r.tight behind_unquoted)) (length (gap_at r.tight behind_quoted)))) (value_size (c ∷ s) utf8)
+    ∙ ap (λ n. Some (easy_cost (r.unquote && not (some_barred (chars (c ∷ s)))) (length name) n (length (gap_at r.tight after_unquoted)) (length (gap_at r.tight after_quoted)))) (value_size (c ∷ s) utf8)
     ∙ ap₂ (λ x y. Some (easy_cost (r.unquote && not (some_barred (chars (c ∷ s)))) (length name) (length (c ∷ s)) x y)) (gap_one r.tight) (gap_quoted r.tight)
   where
-    gap_one : (x : Bool) → length (gap_at x behind_unquoted) ≡ 1
+    gap_one : (x : Bool) → length (gap_at x after_unquoted) ≡ 1
     gap_one true = refl
     gap_one false = refl
 
-    gap_quoted : (x : Bool) → length (gap_at x behind_quoted) ≡ (if x then 0 else 1)
+    gap_quoted : (x : Bool) → length (gap_at x after_quoted) ≡ (if x then 0 else 1)
     gap_quoted true = refl
     gap_quoted false = refl
 
-    gap_few : (x : Bool) → length (gap_at x behind_unquoted) ≤ 1
+    gap_few : (x : Bool) → length (gap_at x after_unquoted) ≤ 1
     gap_few true = omega arith
     gap_few false = omega arith
 
-    gap_less : (x : Bool) → length (gap_at x behind_quoted) ≤ length (gap_at x behind_unquoted)
+    gap_less : (x : Bool) → length (gap_at x after_quoted) ≤ length (gap_at x after_unquoted)
     gap_less true = omega arith
     gap_less false = omega arith
 
@@ -387,8 +387,8 @@ pub last_easy : (t : List Entry) → IsTable t → (r : SpellRules) (low closes 
     → last_cost (sparing_plain t r) closes (record { name = name; value = v }) ≡ Some (easy_cost (r.unquote && not (some_barred (chars v))) (length name) (length v) (if closes then 1 else 0) 0)
 last_easy t table r low closes name [] utf8 some easy read = absurd (omega (arith, some))
 last_easy t table r low true name (c ∷ s) utf8 some easy read =
-    easy_costs t table r low (λ at. if true && is_behind_unquoted at then 1 else 0) name c s easy read (omega arith) (omega arith)
+    easy_costs t table r low (λ at. if true && is_after_unquoted at then 1 else 0) name c s easy read (omega arith) (omega arith)
     ∙ ap (λ n. Some (easy_cost (r.unquote && not (some_barred (chars (c ∷ s)))) (length name) n 1 0)) (value_size (c ∷ s) utf8)
 last_easy t table r low false name (c ∷ s) utf8 some easy read =
-    easy_costs t table r low (λ at. if false && is_behind_unquoted at then 1 else 0) name c s easy read (omega arith) (omega arith)
+    easy_costs t table r low (λ at. if false && is_after_unquoted at then 1 else 0) name c s easy read (omega arith) (omega arith)
     ∙ ap (λ n. Some (easy_cost (r.unquote && not (some_barred (chars (c ∷ s)))) (length name) n 0 0)) (value_size (c ∷ s) utf8)

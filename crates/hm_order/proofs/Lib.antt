@@ -1,4 +1,4 @@
-pub use Rattle.hm_plan.proofs.Headline
+pub use Rattle.hm_shortest.proofs.Headline
 pub mod Prices
 pub mod Values
 pub mod Split

@@ -7,7 +7,7 @@ use Rattle.std.proofs.lemmas.List.Elements.{All-nil, All-cons, All-head, All-tai
 use Rattle.std.proofs.lemmas.List.Sums.{sum_by-cons}
 use Rattle.std.proofs.lemmas.List.Sorted.{sum_by-IsPermutation, All-permutation}
 use Rattle.hm_base.specs.Forms.{has_byte, is_attribute_name}
-use Rattle.hm_base.specs.Walks.{Attribute, Event, doctype, start, text, comment, end, Element, path_behind, path_after, ends_match, begins_end, begins_text, has_name, has_distinct_names}
+use Rattle.hm_base.specs.Walks.{Attribute, Event, doctype, start, text, comment, end, Element, path_after_event, path_after, ends_match, begins_end, begins_text, has_name, has_distinct_names}
 use Rattle.hm_elements.specs.Settled.{Top, Frame, no_html, all_there, no_body, has_body, has_top, has_frame, go_on, next_top, next_frame, is_doctype, starts_root, starts_inner_root, all_events, nests, is_svg_in_place, closes_void, is_text_in_place, is_raw_text, is_comment_in_form, has_attributes_in_form, is_not_deep, is_event_utf8, no_zero_in_values, all_names_in_form, all_utf8, Settled, no_doctype, no_head}
 use Rattle.hm_base.specs.declared.limits.TheConstants.{ATTRIBUTE_LIMIT}
 use Rattle.hm_elements.proofs.TableTools.{eq_self, same_bytes}
@@ -218,8 +218,8 @@ keeps_utf8 = record { tail = t; order = λ path n f xs ys w same h. utf8_like xs
 module _ (test : List Element → Event → List Event → Bool) (keeps : Keeps test) where
   all_with : (e d : Event) (w v : List Event) → e ≡ d → Like w v → ((path : List Element) → all_events test path w ≡ true → all_events test path v ≡ true) → (path : List Element) → all_events test path (e ∷ w) ≡ true → all_events test path (d ∷ v) ≡ true
   all_with e d w v is like more path h =
-      let two = and_parts (test path e w) (all_events test (path_behind path e) w) h in
-      subst (λ x. all_events test path (x ∷ v) ≡ true) is (ap₂ (λ x y. x && y) (keeps.tail path e w v (bare_like w v like) two.0) (more (path_behind path e) two.1))
+      let two = and_parts (test path e w) (all_events test (path_after_event path e) w) h in
+      subst (λ x. all_events test path (x ∷ v) ≡ true) is (ap₂ (λ x y. x && y) (keeps.tail path e w v (bare_like w v like) two.0) (more (path_after_event path e) two.1))
 
   all_like : (w v : List Event) → Like w v → (path : List Element) → all_events test path w ≡ true → all_events test path v ≡ true
   all_like [] [] like path h = refl
@@ -230,9 +230,9 @@ module _ (test : List Element → Event → List Event → Bool) (keeps : Keeps 
   all_like (comment s ∷ w) (d ∷ v) (is, like) path h = all_with (comment s) d w v is like (all_like w v like) path h
   all_like (end n f ∷ w) (d ∷ v) (is, like) path h = all_with (end n f) d w v is like (all_like w v like) path h
   all_like (start n f xs ∷ w) (start m o ys ∷ v) ((a, b, same), like) path h =
-      let two = and_parts (test path (start n f xs) w) (all_events test (path_behind path (start n f xs)) w) h in
+      let two = and_parts (test path (start n f xs) w) (all_events test (path_after_event path (start n f xs)) w) h in
       subst (λ x. all_events test path (start x o ys ∷ v) ≡ true) a (subst (λ x. all_events test path (start n x ys ∷ v) ≡ true) b
-      (ap₂ (λ x y. x && y) (keeps.order path n f xs ys v same (keeps.tail path (start n f xs) w v (bare_like w v like) two.0)) (all_like w v like (path_behind path (start n f xs)) two.1)))
+      (ap₂ (λ x y. x && y) (keeps.order path n f xs ys v same (keeps.tail path (start n f xs) w v (bare_like w v like) two.0)) (all_like w v like (path_after_event path (start n f xs)) two.1)))
   all_like (start n f xs ∷ w) (doctype legacy ∷ v) (is, like) path h = cc
   all_like (start n f xs ∷ w) (text s raw ∷ v) (is, like) path h = cc
   all_like (start n f xs ∷ w) (comment s ∷ v) (is, like) path h = cc
@@ -264,12 +264,12 @@ bare_cons (text s raw) w = refl
 bare_cons (comment s) w = refl
 bare_cons (end n f) w = refl
 
-behind_bare : (path : List Element) (e : Event) → path_behind path e ≡ path_behind path (bare_event e)
-behind_bare path (doctype legacy) = refl
-behind_bare path (start n f xs) = refl
-behind_bare path (text s raw) = refl
-behind_bare path (comment s) = refl
-behind_bare path (end n f) = refl
+path_after_bare : (path : List Element) (e : Event) → path_after_event path e ≡ path_after_event path (bare_event e)
+path_after_bare path (doctype legacy) = refl
+path_after_bare path (start n f xs) = refl
+path_after_bare path (text s raw) = refl
+path_after_bare path (comment s) = refl
+path_after_bare path (end n f) = refl
 
 top_bare : (t : Top) (e : Event) → next_top t e ≡ next_top t (bare_event e)
 top_bare t (doctype legacy) = refl
@@ -306,20 +306,20 @@ go_on_same {A} o p f g e h = rw e (by p)
 has_top_bare : (w : List Event) (t : Top) (path : List Element) → has_top t path w ≡ has_top t path (bare w)
 has_top_bare [] t path = refl
 has_top_bare (e ∷ w) t [] =
-    go_on_same (next_top t e) (next_top t (bare_event e)) (λ next. has_top next (path_behind [] e) w) (λ next. has_top next (path_behind [] (bare_event e)) (bare w)) (top_bare t e)
-    (λ next. has_top_bare w next (path_behind [] e) ∙ ap (λ p. has_top next p (bare w)) (behind_bare [] e)) ∙ ap (has_top t []) (sym (bare_cons e w))
+    go_on_same (next_top t e) (next_top t (bare_event e)) (λ next. has_top next (path_after_event [] e) w) (λ next. has_top next (path_after_event [] (bare_event e)) (bare w)) (top_bare t e)
+    (λ next. has_top_bare w next (path_after_event [] e) ∙ ap (λ p. has_top next p (bare w)) (path_after_bare [] e)) ∙ ap (has_top t []) (sym (bare_cons e w))
 has_top_bare (e ∷ w) t (m ∷ path) =
-    ap₂ (λ x y. not x && y) (flag_bare is_doctype (λ n f xs. refl) e) (has_top_bare w t (path_behind (m ∷ path) e) ∙ ap (λ p. has_top t p (bare w)) (behind_bare (m ∷ path) e)) ∙ ap (has_top t (m ∷ path)) (sym (bare_cons e w))
+    ap₂ (λ x y. not x && y) (flag_bare is_doctype (λ n f xs. refl) e) (has_top_bare w t (path_after_event (m ∷ path) e) ∙ ap (λ p. has_top t p (bare w)) (path_after_bare (m ∷ path) e)) ∙ ap (has_top t (m ∷ path)) (sym (bare_cons e w))
 
 has_frame_bare : (w : List Event) (t : Frame) (path : List Element) → has_frame t path w ≡ has_frame t path (bare w)
 has_frame_bare [] t path = refl
 has_frame_bare (e ∷ w) t [] =
-    ap₂ (λ x y. not x && y) (flag_bare starts_inner_root (λ n f xs. refl) e) (has_frame_bare w no_head (path_behind [] e) ∙ ap (λ p. has_frame no_head p (bare w)) (behind_bare [] e)) ∙ ap (has_frame t []) (sym (bare_cons e w))
+    ap₂ (λ x y. not x && y) (flag_bare starts_inner_root (λ n f xs. refl) e) (has_frame_bare w no_head (path_after_event [] e) ∙ ap (λ p. has_frame no_head p (bare w)) (path_after_bare [] e)) ∙ ap (has_frame t []) (sym (bare_cons e w))
 has_frame_bare (e ∷ w) t (m ∷ []) =
-    go_on_same (next_frame t e) (next_frame t (bare_event e)) (λ next. has_frame next (path_behind (m ∷ []) e) w) (λ next. has_frame next (path_behind (m ∷ []) (bare_event e)) (bare w)) (frame_bare t e)
-    (λ next. has_frame_bare w next (path_behind (m ∷ []) e) ∙ ap (λ p. has_frame next p (bare w)) (behind_bare (m ∷ []) e)) ∙ ap (has_frame t (m ∷ [])) (sym (bare_cons e w))
+    go_on_same (next_frame t e) (next_frame t (bare_event e)) (λ next. has_frame next (path_after_event (m ∷ []) e) w) (λ next. has_frame next (path_after_event (m ∷ []) (bare_event e)) (bare w)) (frame_bare t e)
+    (λ next. has_frame_bare w next (path_after_event (m ∷ []) e) ∙ ap (λ p. has_frame next p (bare w)) (path_after_bare (m ∷ []) e)) ∙ ap (has_frame t (m ∷ [])) (sym (bare_cons e w))
 has_frame_bare (e ∷ w) t (m ∷ k ∷ path) =
-    ap₂ (λ x y. not x && y) (flag_bare starts_root (λ n f xs. refl) e) (has_frame_bare w t (path_behind (m ∷ k ∷ path) e) ∙ ap (λ p. has_frame t p (bare w)) (behind_bare (m ∷ k ∷ path) e)) ∙ ap (has_frame t (m ∷ k ∷ path)) (sym (bare_cons e w))
+    ap₂ (λ x y. not x && y) (flag_bare starts_root (λ n f xs. refl) e) (has_frame_bare w t (path_after_event (m ∷ k ∷ path) e) ∙ ap (λ p. has_frame t p (bare w)) (path_after_bare (m ∷ k ∷ path) e)) ∙ ap (has_frame t (m ∷ k ∷ path)) (sym (bare_cons e w))
 
 -- ---- The law
 

@@ -115,8 +115,8 @@ better_by : (g : Spelling) (closes : Bool) (a b : Attribute) (c d : AttrCost) �
 better_by g closes a b c d h k = (λ j. is_at_most (plus (h.1 j) (k.0 j)) (plus (k.1 j) (h.0 j)))
 
 -- the first best place of a list after one more
-first_best_behind : (c : AttrCost) (costs : List AttrCost) (i : ℕ) → IsFirstBest (c ∷ costs) (suc i) → IsFirstBest costs i
-first_best_behind c costs i h = record {
+first_best_after : (c : AttrCost) (costs : List AttrCost) (i : ℕ) → IsFirstBest (c ∷ costs) (suc i) → IsFirstBest costs i
+first_best_after c costs i h = record {
   inside = let k = h.inside in omega (arith, k);
   least = λ j high. h.least (suc j) (omega (arith, high));
   first = λ j high. h.first (suc j) (omega (arith, high));
@@ -141,7 +141,7 @@ picked_moved g closes (d ∷ costs) c (b ∷ xs) a zero h best =
     record { order = ap (λ t. (chosen t a (b ∷ xs) p).others ++ (chosen t a (b ∷ xs) p).last ∷ []) test; at = ap (λ t. Some (chosen t a (b ∷ xs) p).last) (sym test) }
 picked_moved g closes (d ∷ costs) c (b ∷ xs) a (suc i) h best =
     let p : Picked = picked g closes b xs in
-    let m = picked_moved g closes costs d xs b i h.1 (first_best_behind c (d ∷ costs) i best) in
+    let m = picked_moved g closes costs d xs b i h.1 (first_best_after c (d ∷ costs) i best) in
     let k = costs_at g closes (d ∷ costs) (b ∷ xs) i p.last h.1 m.at in
     let strict = best.first 0 (omega arith) in
     let test : is_better_last g closes a p.last ≡ false = better_by g closes a p.last c (cost_at (d ∷ costs) i) h.0 k ∙ test_false _ _ strict in

@@ -5,9 +5,9 @@ use Rattle.std.proofs.lemmas.Option.{slice_get_within}
 use Rattle.std.specs.List.{All}
 use Rattle.hm_base.specs.Walks.{Attribute}
 use Rattle.hm_base.specs.declared.plain.SpellRules.{SpellRules}
-use Rattle.hm_graph_laws.specs.AttributeEdges.{gap_at, is_behind_unquoted}
+use Rattle.hm_graph_laws.specs.AttributeEdges.{gap_at, is_after_unquoted}
 use Rattle.hm_graph_laws.specs.ExchangeLaws.{sparing_plain}
-use Rattle.hm_graph_laws.specs.States.{Where, behind_name, behind_quoted, behind_unquoted, in_double, in_single, in_unquoted}
+use Rattle.hm_graph_laws.specs.States.{Where, after_name, after_quoted, after_unquoted, in_double, in_single, in_unquoted}
 use Rattle.hm_graph_laws.specs.Ways.{lesser, over}
 use Rattle.hm_optimality_laws.proofs.Best.{spares_plain}
 use Rattle.hm_optimality_laws.specs.SpellingLaws.{SparesOnlyPlain}
@@ -55,29 +55,29 @@ one_where true p q h = h
 one_where false p q h = tt
 
 -- where so many bytes are counted after an attribute, by where it leaves the tag
-saves_one : (g : Spelling) (more less : Where → ℕ) → more behind_name ≤ less behind_name + 1 → more behind_unquoted ≤ less behind_unquoted + 1 → more behind_quoted ≤ less behind_quoted + 1
+saves_one : (g : Spelling) (more less : Where → ℕ) → more after_name ≤ less after_name + 1 → more after_unquoted ≤ less after_unquoted + 1 → more after_quoted ≤ less after_quoted + 1
     → (name value : List ℕ) → OneMore (cost_of g more name value) (cost_of g less name value)
 saves_one g more less bare unquoted quoted name [] = omega (arith, bare)
 saves_one g more less bare unquoted quoted name (c ∷ s) =
-    one_lesser _ _ _ _ (one_where g.rules.unquote _ _ (one_form (length name + 1) (value_cost g in_unquoted (c ∷ s)) (more behind_unquoted) (less behind_unquoted) unquoted))
-    (one_lesser _ _ _ _ (one_form (length name + 2) (value_cost g in_double (c ∷ s)) (more behind_quoted) (less behind_quoted) quoted) (one_form (length name + 2) (value_cost g in_single (c ∷ s)) (more behind_quoted) (less behind_quoted) quoted))
+    one_lesser _ _ _ _ (one_where g.rules.unquote _ _ (one_form (length name + 1) (value_cost g in_unquoted (c ∷ s)) (more after_unquoted) (less after_unquoted) unquoted))
+    (one_lesser _ _ _ _ (one_form (length name + 2) (value_cost g in_double (c ∷ s)) (more after_quoted) (less after_quoted) quoted) (one_form (length name + 2) (value_cost g in_single (c ∷ s)) (more after_quoted) (less after_quoted) quoted))
 
-short_name : (tight : Bool) (n : ℕ) → length (gap_at tight behind_name) ≤ n + 1
+short_name : (tight : Bool) (n : ℕ) → length (gap_at tight after_name) ≤ n + 1
 short_name true n = omega arith
 short_name false n = omega arith
 
-short_unquoted : (tight : Bool) (n : ℕ) → length (gap_at tight behind_unquoted) ≤ n + 1
+short_unquoted : (tight : Bool) (n : ℕ) → length (gap_at tight after_unquoted) ≤ n + 1
 short_unquoted true n = omega arith
 short_unquoted false n = omega arith
 
-short_quoted : (tight : Bool) (n : ℕ) → length (gap_at tight behind_quoted) ≤ n + 1
+short_quoted : (tight : Bool) (n : ℕ) → length (gap_at tight after_quoted) ≤ n + 1
 short_quoted true n = omega arith
 short_quoted false n = omega arith
 
 inner_one_more : (g : Spelling) (closes : Bool) (a : Attribute) → OneMore (inner_cost g a) (last_cost g closes a)
 inner_one_more g closes a =
-    let less : Where → ℕ = λ at. cond (closes && is_behind_unquoted at) 1 0 in
-    saves_one g (λ at. length (gap_at g.rules.tight at)) less (short_name g.rules.tight (less behind_name)) (short_unquoted g.rules.tight (less behind_unquoted)) (short_quoted g.rules.tight (less behind_quoted)) a.name a.value
+    let less : Where → ℕ = λ at. cond (closes && is_after_unquoted at) 1 0 in
+    saves_one g (λ at. length (gap_at g.rules.tight at)) less (short_name g.rules.tight (less after_name)) (short_unquoted g.rules.tight (less after_unquoted)) (short_quoted g.rules.tight (less after_quoted)) a.name a.value
 
 one_number : (g : Spelling) (closes : Bool) (a : Attribute) (i l : ℕ) → inner_cost g a ≡ Some i → last_cost g closes a ≡ Some l → i ≤ l + 1
 one_number g closes a i l inner last = subst (OneMore (Some i)) last (subst (λ p. OneMore p (last_cost g closes a)) inner (inner_one_more g closes a))

@@ -1,17 +1,17 @@
 -- The least price of a tag with attributes is the sum of what they take, each by whether it is the last one.
 use Rattle.std.proofs.Common.{◌≡◌, ◌+◌, ◌≤◌, ℕ, suc, Bool, true, false, cond, ◌&&◌, List, [], ◌∷◌, ◌++◌, length, Option, Some, None, refl, sym, ap, ap₂, ◌∙◌, arith, append_assoc, length-append, codes}
-use Rattle.hm_graph_laws.specs.AttributeEdges.{gap_at, is_behind_unquoted}
+use Rattle.hm_graph_laws.specs.AttributeEdges.{gap_at, is_after_unquoted}
 use Rattle.hm_base.specs.Walks.{Attribute}
 use Rattle.hm_graph_laws.specs.UnitEdges.{edges_of}
 use Rattle.hm_graph_laws.specs.Ways.{least, lesser, over}
 use Rattle.hm_spelling_spec.specs.Tags.{Spelling}
 use Rattle.hm_graph_laws.specs.TagEdges.{end_bytes}
-use Rattle.hm_graph_laws.specs.States.{Where, behind_name, nothing, state, first_state}
+use Rattle.hm_graph_laws.specs.States.{Where, after_name, nothing, state, first_state}
 use Rattle.hm_graph_laws.specs.Units.{Unit, attribute_units, tag_close}
 use Rattle.hm_order.specs.Costs.{plus, inner_cost, attributes_cost}
 use Rattle.hm_order.specs.Laws.{close_cost, ClosesBefore, TagsSplit}
 use Rattle.hm_order.proofs.Prices.{lesser_none, over_over, plus_assoc}
-use Rattle.hm_order.proofs.Values.{InTag, named, unquoted, quoted, Behind, units_by, attribute_takes}
+use Rattle.hm_order.proofs.Values.{InTag, named, unquoted, quoted, WrittenAfter, units_by, attribute_takes}
 
 over_zero : (p : Option ℕ) → p ≡ over 0 p
 over_zero None = refl
@@ -34,11 +34,11 @@ by_itself a b m n h =
     ∙ ap (over b) (sym is)
 
 abbrev extra : Bool → Where → ℕ
-extra closes at = cond (closes && is_behind_unquoted at) 1 0
+extra closes at = cond (closes && is_after_unquoted at) 1 0
 
-closed_behind : (g : Spelling) (closes : Bool) (rest : List Unit) → ClosesBefore closes rest → Behind g (tag_close closes ∷ rest) (extra closes) (close_cost g closes rest)
-closed_behind g false rest h = record { at = λ at tag. lesser_none (over 1 (least (edges_of g) rest first_state)) ∙ over_zero (over 1 (least (edges_of g) rest first_state)) }
-closed_behind g true rest (n, loosens, more, is) = record { at = λ at tag. rw is (by at tag) }
+closed_after : (g : Spelling) (closes : Bool) (rest : List Unit) → ClosesBefore closes rest → WrittenAfter g (tag_close closes ∷ rest) (extra closes) (close_cost g closes rest)
+closed_after g false rest h = record { at = λ at tag. lesser_none (over 1 (least (edges_of g) rest first_state)) ∙ over_zero (over 1 (least (edges_of g) rest first_state)) }
+closed_after g true rest (n, loosens, more, is) = record { at = λ at tag. rw is (by at tag) }
   where
     m : Option ℕ
     m = least (edges_of g) more first_state
@@ -46,7 +46,7 @@ closed_behind g true rest (n, loosens, more, is) = record { at = λ at tag. rw i
     r : Option ℕ
     r = lesser (over 0 m) None
 
-    by : (at : Where) → InTag at → lesser (over 1 (lesser (over (length (end_bytes n)) m) None)) (lesser (over (length (cond (is_behind_unquoted at) (codes " />") (codes "/>"))) r) None) ≡ over (cond (is_behind_unquoted at) 1 0) (over 2 r)
+    by : (at : Where) → InTag at → lesser (over 1 (lesser (over (length (end_bytes n)) m) None)) (lesser (over (length (cond (is_after_unquoted at) (codes " />") (codes "/>"))) r) None) ≡ over (cond (is_after_unquoted at) 1 0) (over 2 r)
     by at named = by_itself 1 2 m n (omega arith) ∙ over_zero (over 2 r)
     by at quoted = by_itself 1 2 m n (omega arith) ∙ over_zero (over 2 r)
     by at unquoted = by_itself 1 3 m n (omega arith) ∙ sym (over_over 1 2 r)
@@ -64,7 +64,7 @@ attributes_take : (g : Spelling) (closes : Bool) (rest : List Unit) → ClosesBe
     → least (edges_of g) (attribute_units (a ∷ attributes) ++ tag_close closes ∷ rest) (state at nothing) ≡ over (length (gap_at g.rules.tight at)) (plus (attributes_cost g closes a attributes) (close_cost g closes rest))
 attributes_take g closes rest h [] a at =
     ap (λ us. least (edges_of g) us (state at nothing)) (units_split a [] (tag_close closes ∷ rest))
-    ∙ attribute_takes g a.name a.value (tag_close closes ∷ rest) (extra closes) (close_cost g closes rest) at (closed_behind g closes rest h)
+    ∙ attribute_takes g a.name a.value (tag_close closes ∷ rest) (extra closes) (close_cost g closes rest) at (closed_after g closes rest h)
 attributes_take g closes rest h (b ∷ attributes) a at =
     let k : Option ℕ = plus (attributes_cost g closes b attributes) (close_cost g closes rest) in
     ap (λ us. least (edges_of g) us (state at nothing)) (units_split a (b ∷ attributes) (tag_close closes ∷ rest))
@@ -72,13 +72,13 @@ attributes_take g closes rest h (b ∷ attributes) a at =
     (record { at = λ place tag. attributes_take g closes rest h attributes b place })
     ∙ ap (over (length (gap_at g.rules.tight at))) (sym (plus_assoc (inner_cost g a) (attributes_cost g closes b attributes) (close_cost g closes rest)))
 
-first_gap : (tight : Bool) → length (gap_at tight behind_name) ≡ 1
+first_gap : (tight : Bool) → length (gap_at tight after_name) ≡ 1
 first_gap true = refl
 first_gap false = refl
 
 pub tags_split : TagsSplit
 tags_split g name a attributes closes rest s h =
     let k : Option ℕ = plus (attributes_cost g closes a attributes) (close_cost g closes rest) in
-    lesser_none (over (suc (length name)) (least (edges_of g) (attribute_units (a ∷ attributes) ++ tag_close closes ∷ rest) (state behind_name nothing)))
-    ∙ ap (over (suc (length name))) (attributes_take g closes rest h attributes a behind_name ∙ ap (λ n. over n k) (first_gap g.rules.tight))
+    lesser_none (over (suc (length name)) (least (edges_of g) (attribute_units (a ∷ attributes) ++ tag_close closes ∷ rest) (state after_name nothing)))
+    ∙ ap (over (suc (length name))) (attributes_take g closes rest h attributes a after_name ∙ ap (λ n. over n k) (first_gap g.rules.tight))
     ∙ over_over (suc (length name)) 1 k ∙ ap (λ n. over n k) (omega arith)

@@ -2,7 +2,7 @@
 use Rattle.std.proofs.Common.{◌≡◌, ◌+◌, ℕ, Bool, true, false, cond, List, [], ◌∷◌, ◌++◌, length, map, Option, Some, None, refl, sym, ap, ap₂, subst, ◌∙◌, arith, length-append, append-nil, codes, chars}
 use Rattle.hm_refs.specs.Tables.{IsIn, first, later}
 use Rattle.hm_graph_laws.specs.Edges.{Edge, edge}
-use Rattle.hm_graph_laws.specs.States.{Where, behind_name, behind_unquoted, behind_quoted, in_unquoted, in_double, in_single, Pending, nothing, State, state, value_spot}
+use Rattle.hm_graph_laws.specs.States.{Where, after_name, after_unquoted, after_quoted, in_unquoted, in_double, in_single, Pending, nothing, State, state, value_spot}
 use Rattle.hm_graph_laws.specs.Steps.{may_end}
 use Rattle.hm_graph_laws.specs.Units.{Unit, in_value, character_units, attribute_end, bare_attribute, attribute_name, next_of}
 use Rattle.hm_graph_laws.specs.AttributeEdges.{gap_at, closed_at}
@@ -46,13 +46,13 @@ pub record Closes (at : Where) (b : List ℕ) (to : Where) : Type 0 where
   pub plain : is_foreign (value_spot at) ≡ false
   pub closed : closed_at at ≡ edge b to nothing ∷ []
 
-pub closes_unquoted : Closes in_unquoted [] behind_unquoted
+pub closes_unquoted : Closes in_unquoted [] after_unquoted
 closes_unquoted = record { out = refl; plain = refl; closed = refl }
 
-pub closes_double : Closes in_double (34 ∷ []) behind_quoted
+pub closes_double : Closes in_double (34 ∷ []) after_quoted
 closes_double = record { out = refl; plain = refl; closed = refl }
 
-pub closes_single : Closes in_single (39 ∷ []) behind_quoted
+pub closes_single : Closes in_single (39 ∷ []) after_quoted
 closes_single = record { out = refl; plain = refl; closed = refl }
 
 value_leads : (g : Spelling) (at : Where) (b : List ℕ) (to : Where) → Closes at b to → (cs : List ℕ) (p : Pending) → LeadsTo (edges_of g) (character_units in_value cs ++ attribute_end ∷ []) (state at p) (state to nothing)
@@ -79,13 +79,13 @@ value_takes g at b to k v rest = least_cut (edges_of g) (value_units v) rest (st
 
 -- the places in a tag where an attribute may begin
 pub data InTag : Where → Type 0 where
-  named : InTag behind_name
-  unquoted : InTag behind_unquoted
-  quoted : InTag behind_quoted
+  named : InTag after_name
+  unquoted : InTag after_unquoted
+  quoted : InTag after_quoted
 
 -- what is after costs so much, by the place where the attribute leaves the tag
-pub record Behind (g : Spelling) (rest : List Unit) (behind : Where → ℕ) (k : Option ℕ) : Type 0 where
-  pub at : (at : Where) → InTag at → least (edges_of g) rest (state at nothing) ≡ over (behind at) k
+pub record WrittenAfter (g : Spelling) (rest : List Unit) (after : Where → ℕ) (k : Option ℕ) : Type 0 where
+  pub at : (at : Where) → InTag at → least (edges_of g) rest (state at nothing) ≡ over (after at) k
 
 plus_some : (n : ℕ) (k : Option ℕ) → over n k ≡ plus (Some n) k
 plus_some n k = refl
@@ -115,17 +115,17 @@ three n a b c k =
     ∙ lesser_over n (plus a k) (lesser (plus b k) (plus c k))
     ∙ ap (lesser (over n (plus a k))) (lesser_over n (plus b k) (plus c k))
 
-pub attribute_takes : (g : Spelling) (name value : List ℕ) (rest : List Unit) (behind : Where → ℕ) (k : Option ℕ) (at : Where) → Behind g rest behind k
-    → least (edges_of g) (units_by name value ++ rest) (state at nothing) ≡ over (length (gap_at g.rules.tight at)) (plus (cost_of g behind name value) k)
-attribute_takes g name [] rest behind k at h =
+pub attribute_takes : (g : Spelling) (name value : List ℕ) (rest : List Unit) (after : Where → ℕ) (k : Option ℕ) (at : Where) → WrittenAfter g rest after k
+    → least (edges_of g) (units_by name value ++ rest) (state at nothing) ≡ over (length (gap_at g.rules.tight at)) (plus (cost_of g after name value) k)
+attribute_takes g name [] rest after k at h =
     let gap : List ℕ = gap_at g.rules.tight at in
-    let x : Option ℕ = least (edges_of g) rest (state behind_name nothing) in
+    let x : Option ℕ = least (edges_of g) rest (state after_name nothing) in
     lesser_none (over (length (gap ++ name)) x)
-    ∙ ap₂ over (length-append gap name) (h.at behind_name named)
-    ∙ over_over (length gap + length name) (behind behind_name) k
+    ∙ ap₂ over (length-append gap name) (h.at after_name named)
+    ∙ over_over (length gap + length name) (after after_name) k
     ∙ ap (λ n. over n k) (omega arith)
-    ∙ sym (over_over (length gap) (length name + behind behind_name) k)
-attribute_takes g name (c ∷ s) rest behind k at h = by_test g.rules.unquote
+    ∙ sym (over_over (length gap) (length name + after after_name) k)
+attribute_takes g name (c ∷ s) rest after k at h = by_test g.rules.unquote
   where
     gap : List ℕ
     gap = gap_at g.rules.tight at
@@ -136,7 +136,7 @@ attribute_takes g name (c ∷ s) rest behind k at h = by_test g.rules.unquote
     from : Where → Option ℕ
     from place = least (edges_of g) (value_units v ++ rest) (state place nothing)
 
-    takes : (place : Where) (b : List ℕ) (to : Where) → Closes place b to → InTag to → from place ≡ plus (value_cost g place v) (over (behind to) k)
+    takes : (place : Where) (b : List ℕ) (to : Where) → Closes place b to → InTag to → from place ≡ plus (value_cost g place v) (over (after to) k)
     takes place b to closes tag = value_takes g place b to closes v rest ∙ ap (plus (value_cost g place v)) (h.at to tag)
 
     by_test : (u : Bool)
@@ -144,24 +144,24 @@ attribute_takes g name (c ∷ s) rest behind k at h = by_test g.rules.unquote
         (cond u (edge (gap ++ (name ++ codes "=")) in_unquoted nothing ∷ []) [] ++ edge (gap ++ (name ++ codes "=\"")) in_double nothing ∷ edge (gap ++ (name ++ codes "='")) in_single nothing ∷ [])
         ≡ over (length gap)
         (plus
-        (lesser (cond u (over (length name + 1) (plus (value_cost g in_unquoted v) (Some (behind behind_unquoted)))) None)
-        (lesser (over (length name + 2) (plus (value_cost g in_double v) (Some (behind behind_quoted)))) (over (length name + 2) (plus (value_cost g in_single v) (Some (behind behind_quoted))))))
+        (lesser (cond u (over (length name + 1) (plus (value_cost g in_unquoted v) (Some (after after_unquoted)))) None)
+        (lesser (over (length name + 2) (plus (value_cost g in_double v) (Some (after after_quoted)))) (over (length name + 2) (plus (value_cost g in_single v) (Some (after after_quoted))))))
         k)
-    by_test u = by u ∙ sym (three (length gap) (cond u (over (length name + 1) (plus (value_cost g in_unquoted v) (Some (behind behind_unquoted)))) None) (over (length name + 2) (plus (value_cost g in_double v) (Some (behind behind_quoted)))) (over (length name + 2) (plus (value_cost g in_single v) (Some (behind behind_quoted)))) k)
+    by_test u = by u ∙ sym (three (length gap) (cond u (over (length name + 1) (plus (value_cost g in_unquoted v) (Some (after after_unquoted)))) None) (over (length name + 2) (plus (value_cost g in_double v) (Some (after after_quoted)))) (over (length name + 2) (plus (value_cost g in_single v) (Some (after after_quoted)))) k)
       where
-        first_form : over (length (gap ++ (name ++ codes "="))) (from in_unquoted) ≡ over (length gap) (plus (over (length name + 1) (plus (value_cost g in_unquoted v) (Some (behind behind_unquoted)))) k)
-        first_form = one_form gap name (codes "=") (value_cost g in_unquoted v) k (from in_unquoted) (behind behind_unquoted) (takes in_unquoted [] behind_unquoted closes_unquoted unquoted)
+        first_form : over (length (gap ++ (name ++ codes "="))) (from in_unquoted) ≡ over (length gap) (plus (over (length name + 1) (plus (value_cost g in_unquoted v) (Some (after after_unquoted)))) k)
+        first_form = one_form gap name (codes "=") (value_cost g in_unquoted v) k (from in_unquoted) (after after_unquoted) (takes in_unquoted [] after_unquoted closes_unquoted unquoted)
 
         others : lesser (over (length (gap ++ (name ++ codes "=\""))) (from in_double)) (lesser (over (length (gap ++ (name ++ codes "='"))) (from in_single)) None)
-            ≡ lesser (over (length gap) (plus (over (length name + 2) (plus (value_cost g in_double v) (Some (behind behind_quoted)))) k)) (over (length gap) (plus (over (length name + 2) (plus (value_cost g in_single v) (Some (behind behind_quoted)))) k))
+            ≡ lesser (over (length gap) (plus (over (length name + 2) (plus (value_cost g in_double v) (Some (after after_quoted)))) k)) (over (length gap) (plus (over (length name + 2) (plus (value_cost g in_single v) (Some (after after_quoted)))) k))
         others =
-            ap₂ lesser (one_form gap name (codes "=\"") (value_cost g in_double v) k (from in_double) (behind behind_quoted) (takes in_double (34 ∷ []) behind_quoted closes_double quoted))
-            (lesser_none (over (length (gap ++ (name ++ codes "='"))) (from in_single)) ∙ one_form gap name (codes "='") (value_cost g in_single v) k (from in_single) (behind behind_quoted) (takes in_single (39 ∷ []) behind_quoted closes_single quoted))
+            ap₂ lesser (one_form gap name (codes "=\"") (value_cost g in_double v) k (from in_double) (after after_quoted) (takes in_double (34 ∷ []) after_quoted closes_double quoted))
+            (lesser_none (over (length (gap ++ (name ++ codes "='"))) (from in_single)) ∙ one_form gap name (codes "='") (value_cost g in_single v) k (from in_single) (after after_quoted) (takes in_single (39 ∷ []) after_quoted closes_single quoted))
 
         by : (b : Bool)
             → best (least (edges_of g) (value_units v ++ rest))
             (cond b (edge (gap ++ (name ++ codes "=")) in_unquoted nothing ∷ []) [] ++ edge (gap ++ (name ++ codes "=\"")) in_double nothing ∷ edge (gap ++ (name ++ codes "='")) in_single nothing ∷ [])
-            ≡ lesser (over (length gap) (plus (cond b (over (length name + 1) (plus (value_cost g in_unquoted v) (Some (behind behind_unquoted)))) None) k))
-            (lesser (over (length gap) (plus (over (length name + 2) (plus (value_cost g in_double v) (Some (behind behind_quoted)))) k)) (over (length gap) (plus (over (length name + 2) (plus (value_cost g in_single v) (Some (behind behind_quoted)))) k)))
+            ≡ lesser (over (length gap) (plus (cond b (over (length name + 1) (plus (value_cost g in_unquoted v) (Some (after after_unquoted)))) None) k))
+            (lesser (over (length gap) (plus (over (length name + 2) (plus (value_cost g in_double v) (Some (after after_quoted)))) k)) (over (length gap) (plus (over (length name + 2) (plus (value_cost g in_single v) (Some (after after_quoted)))) k)))
         by true = ap₂ lesser first_form others
         by false = others

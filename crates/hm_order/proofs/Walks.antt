@@ -14,7 +14,7 @@ use Rattle.hm_spelling_spec.specs.Omission.{start_falls, may_omit_end, end_falls
 use Rattle.hm_spelling_spec.specs.Tags.{Spelling}
 use Rattle.hm_graph_laws.specs.Edges.{Edge, edge_length}
 use Rattle.hm_graph_laws.specs.States.{State, state, self_closed, nothing, first_state}
-use Rattle.hm_graph_laws.specs.Units.{Unit, fixed, end_tag, tag_close, tag_name, attribute_units, start_units, end_units, text_units, doctype_bytes, may_close_itself, is_firm, is_behind_start, is_loose_end, units_from, Previous}
+use Rattle.hm_graph_laws.specs.Units.{Unit, fixed, end_tag, tag_close, tag_name, attribute_units, start_units, end_units, text_units, doctype_bytes, may_close_itself, is_firm, is_after_start, is_loose_end, units_from, Previous}
 use Rattle.hm_optimality_laws.specs.SpellingLaws.{SparesOnlyPlain}
 use Rattle.hm_order.specs.Costs.{plus}
 use Rattle.hm_order.specs.Laws.{close_cost, ClosesBefore}
@@ -142,7 +142,7 @@ matches_bare (e ∷ path) (comment s ∷ w) = matches_bare (e ∷ path) w
 -- ---- What is asked of the event before
 
 abbrev pub SamePrevious : Previous → Previous → Type 0
-SamePrevious p q = ((n : List ℕ) → is_firm p n ≡ is_firm q n) × (is_behind_start p ≡ is_behind_start q)
+SamePrevious p q = ((n : List ℕ) → is_firm p n ≡ is_firm q n) × (is_after_start p ≡ is_after_start q)
 
 pub same_previous : (p : Previous) → SamePrevious p p
 same_previous p = ((λ n. refl), refl)
@@ -177,9 +177,9 @@ record IsMore (all : List Attribute) : Type 0 where
   rest : List Attribute
   is : all ≡ head ∷ rest
 
-more_behind : (xs : List Attribute) (a : Attribute) → IsMore (xs ++ a ∷ [])
-more_behind [] a = record { head = a; rest = []; is = refl }
-more_behind (x ∷ xs) a = record { head = x; rest = xs ++ a ∷ []; is = refl }
+more_after : (xs : List Attribute) (a : Attribute) → IsMore (xs ++ a ∷ [])
+more_after [] a = record { head = a; rest = []; is = refl }
+more_after (x ∷ xs) a = record { head = x; rest = xs ++ a ∷ []; is = refl }
 
 -- what the attributes of a tag take
 abbrev sum_of : (g : Spelling) → SparesOnlyPlain g → Bool → List Attribute → ℕ
@@ -195,7 +195,7 @@ tag_no_more : (g : Spelling) → SparesOnlyPlain g → (n : List ℕ) (c : Bool)
     → NoMoreUnits (edges_of g) ((tag_name n ∷ (attribute_units (ordered g c (a ∷ xs)) ++ tag_close c ∷ [])) ++ us) ((tag_name n ∷ (attribute_units (b ∷ ys) ++ tag_close c ∷ [])) ++ vs)
 tag_no_more g plain n c a b xs ys us vs same before other h s =
     let p : Picked = picked g c a xs in
-    let m : IsMore (ordered g c (a ∷ xs)) = more_behind p.others p.last in
+    let m : IsMore (ordered g c (a ∷ xs)) = more_after p.others p.last in
     let less : sum_of g plain c (m.head ∷ m.rest) ≤ sum_of g plain c (b ∷ ys) = subst (λ all. sum_of g plain c all ≤ sum_of g plain c (b ∷ ys)) m.is (picked_costs_least g c (inner_of g plain c) (last_of g plain c) (numbers g plain c) a b xs ys same) in
     let sums = over_no_more (length n + 2) _ _ (plus_no_more _ _ (close_cost g c us) (close_cost g c vs) less (close_no_more g c us vs h)) in
     subst (λ all. NoMore (least (edges_of g) ((tag_name n ∷ (attribute_units all ++ tag_close c ∷ [])) ++ us) s) (least (edges_of g) ((tag_name n ∷ (attribute_units (b ∷ ys) ++ tag_close c ∷ [])) ++ vs) s)) (sym m.is)
@@ -258,7 +258,7 @@ module _ (g : Spelling) (plain : SparesOnlyPlain g) where
       let em : ends_match (record { name = n; foreign = f } ∷ path) (reordered g w) ≡ true = same_matches (record { name = n; foreign = f } ∷ path) w v like ∙ m in
       let us : List Unit = units_from g.rules (Some (start n f (ordered g c (a ∷ xs)))) (record { name = n; foreign = f } ∷ path) (reordered g w) in
       let vs : List Unit = units_from g.rules (Some (start n f (b ∷ ys))) (record { name = n; foreign = f } ∷ path) v in
-      subst (λ ts. NoMoreUnits es (ts ++ us) (start_units g.rules q n f (b ∷ ys) v ++ vs)) (sym (start_is p n f c (ordered g c (a ∷ xs)) (reordered g w) own (more_behind (picked g c a xs).others (picked g c a xs).last)))
+      subst (λ ts. NoMoreUnits es (ts ++ us) (start_units g.rules q n f (b ∷ ys) v ++ vs)) (sym (start_is p n f c (ordered g c (a ∷ xs)) (reordered g w) own (more_after (picked g c a xs).others (picked g c a xs).last)))
       (subst (λ d. NoMoreUnits es ((tag_name n ∷ (attribute_units (ordered g c (a ∷ xs)) ++ tag_close c ∷ [])) ++ us) ((tag_name n ∷ (attribute_units (b ∷ ys) ++ tag_close d ∷ [])) ++ vs)) (sym other)
       (tag_no_more g plain n c a b xs ys us vs same (closes_before g.rules _ n f path (reordered g w) em c own) (closes_before g.rules _ n f path v m c other) (next _ _ ((λ k. refl), refl))))
     where

@@ -8,7 +8,7 @@ use Rattle.hm_graph_laws.proofs.In.{in_append, only}
 use Rattle.hm_graph_laws.proofs.Numbers.{number_fits}
 use Rattle.hm_graph_laws.proofs.Runs.{run_fits}
 use Rattle.hm_graph_laws.specs.AttributeEdges.{closed_at}
-use Rattle.hm_graph_laws.specs.CharacterEdges.{as_itself, behind_half, behind_name, behind_pair, by_decimal, by_hexadecimal, by_names, by_pairs, by_references, Choice, choice, choices, choices_by, itself_by, itself_to, kept_at}
+use Rattle.hm_graph_laws.specs.CharacterEdges.{as_itself, after_half, after_name, after_pair, by_decimal, by_hexadecimal, by_names, by_pairs, by_references, Choice, choice, choices, choices_by, itself_by, itself_to, kept_at}
 use Rattle.hm_graph_laws.specs.Edges.{Edge, edge, edge_length}
 use Rattle.hm_graph_laws.specs.States.{half, hexadecimal, nothing, Pending, State, state, value_spot, Where}
 use Rattle.hm_graph_laws.specs.Steps.{Fits, FitsAfter, may_end, run, step}
@@ -65,7 +65,7 @@ pub record PaysOne (t : List Entry) (spot : Spot) (W : ℕ → ℕ) (c : ℕ) (e
 pub record PaysTwo (t : List Entry) (spot : Spot) (W : ℕ → ℕ) (c d : ℕ) (e : Choice) : Type 0 where
   pub left : Option (List ℕ)
   pub to_is : e.to ≡ half left
-  pub fits : Fits t spot (behind_half left)
+  pub fits : Fits t spot (after_half left)
   pub pays : W c + W d ≤ length e.bytes
 
 abbrev pub Pays : List Entry → Spot → (ℕ → ℕ) → ℕ → Option ℕ → Choice → Type 0
@@ -104,16 +104,16 @@ module _ (g : Spelling) (table : IsTable g.table) (spot : Spot) (W : ℕ → ℕ
       by true None hm fits j = elim j [ ]
       by false n hm fits j = elim j [ ]
 
-  single_pays : (c : ℕ) → AreHeavy W t (places_for c t) → (e : Choice) → IsIn e (by_names behind_name (c ∷ []) t) → PaysOne t spot W c e
+  single_pays : (c : ℕ) → AreHeavy W t (places_for c t) → (e : Choice) → IsIn e (by_names after_name (c ∷ []) t) → PaysOne t spot W c e
   single_pays c h e i =
-      let n = named_is t behind_name (c ∷ []) e i in
-      let long = named_pays W t behind_name (c ∷ []) (places_for c t) e h (subst (IsIn e) (sym (names_are behind_name c [] t)) i) in
+      let n = named_is t after_name (c ∷ []) e i in
+      let long = named_pays W t after_name (c ∷ []) (places_for c t) e h (subst (IsIn e) (sym (names_are after_name c [] t)) i) in
       record { fits = subst (λ z. Fits t spot z.to) (sym n.choice_is) (name_fits t spot n.entry.name (good_entry t table n.entry n.among)); pays = omega (arith, long) }
 
-  pair_pays : (c d : ℕ) → AreHeavy W t (places_for c t) → (e : Choice) → IsIn e (by_names behind_pair (c ∷ d ∷ []) t) → PaysTwo t spot W c d e
+  pair_pays : (c d : ℕ) → AreHeavy W t (places_for c t) → (e : Choice) → IsIn e (by_names after_pair (c ∷ d ∷ []) t) → PaysTwo t spot W c d e
   pair_pays c d h e i =
-      let n = named_is t behind_pair (c ∷ d ∷ []) e i in
-      let long = named_pays W t behind_pair (c ∷ d ∷ []) (places_for c t) e h (subst (IsIn e) (sym (names_are behind_pair c (d ∷ []) t)) i) in
+      let n = named_is t after_pair (c ∷ d ∷ []) e i in
+      let long = named_pays W t after_pair (c ∷ d ∷ []) (places_for c t) e h (subst (IsIn e) (sym (names_are after_pair c (d ∷ []) t)) i) in
       let (left, to, same) = pair_to_is n.entry.name in
       record { left = left; to_is = ap (λ z. z.to) n.choice_is ∙ to; fits = subst (Fits t spot) (sym same) (name_fits t spot n.entry.name (good_entry t table n.entry n.among)); pays = omega (arith, long) }
 
@@ -144,15 +144,15 @@ module _ (g : Spelling) (table : IsTable g.table) (spot : Spot) (W : ℕ → ℕ
   pairs_pay c (Some d) h e i = inr (d, refl, pair_pays c d h e i)
 
   references_pay : (c : ℕ) (next : Option ℕ) → W c ≤ 3 → AreHeavy W t (places_for c t) → (e : Choice) → IsIn e (by_references t c next) → Pays t spot W c next e
-  references_pay c next few h e i = by (in_append e (by_names behind_name (c ∷ []) t) (by_pairs t c next ++ (by_decimal (best_number c) ++ by_hexadecimal c)) i)
+  references_pay c next few h e i = by (in_append e (by_names after_name (c ∷ []) t) (by_pairs t c next ++ (by_decimal (best_number c) ++ by_hexadecimal c)) i)
     where
-      behind : IsIn e (by_pairs t c next) ⊎ IsIn e (by_decimal (best_number c) ++ by_hexadecimal c) → Pays t spot W c next e
-      behind (inl j) = pairs_pay c next h e j
-      behind (inr j) = inl (number_pays c few e j)
+      after : IsIn e (by_pairs t c next) ⊎ IsIn e (by_decimal (best_number c) ++ by_hexadecimal c) → Pays t spot W c next e
+      after (inl j) = pairs_pay c next h e j
+      after (inr j) = inl (number_pays c few e j)
 
-      by : IsIn e (by_names behind_name (c ∷ []) t) ⊎ IsIn e (by_pairs t c next ++ (by_decimal (best_number c) ++ by_hexadecimal c)) → Pays t spot W c next e
+      by : IsIn e (by_names after_name (c ∷ []) t) ⊎ IsIn e (by_pairs t c next ++ (by_decimal (best_number c) ++ by_hexadecimal c)) → Pays t spot W c next e
       by (inl j) = inl (single_pays c h e j)
-      by (inr j) = behind (in_append e (by_pairs t c next) (by_decimal (best_number c) ++ by_hexadecimal c) j)
+      by (inr j) = after (in_append e (by_pairs t c next) (by_decimal (best_number c) ++ by_hexadecimal c) j)
 
   -- each choice of a character where no code point is due
   choices_pay : (c : ℕ) (next : Option ℕ) (p : Pending) → IsWeighed g spot W c → Fits t spot p → (e : Choice) → IsIn e (choices t (character_rules g) spot c next p) → Pays t spot W c next e
@@ -203,10 +203,10 @@ module _ (g : Spelling) (table : IsTable g.table) (at : Where) (b : List ℕ) (t
       by false = tt
 
   -- after a name for two code points the second one is skipped
-  half_at_least : (d : ℕ) (cs : List ℕ) (left : Option (List ℕ)) → Fits g.table spot (behind_half left) → Whole cs → AtLeast (total W cs + length b) (from (d ∷ cs) (half left))
+  half_at_least : (d : ℕ) (cs : List ℕ) (left : Option (List ℕ)) → Fits g.table spot (after_half left) → Whole cs → AtLeast (total W cs + length b) (from (d ∷ cs) (half left))
   half_at_least d cs left f more =
       subst (λ es. AtLeast (total W cs + length b) (best (least (edges_of g) (units cs)) es)) (sym (character_edges_are g at (half left) d (next_of cs) closes.out closes.plain))
-      (lesser_at_least (total W cs + length b) (over 0 (from cs (behind_half left))) None (over_at_least (total W cs + length b) (total W cs + length b) 0 (from cs (behind_half left)) (more (behind_half left) f) (omega arith)) tt)
+      (lesser_at_least (total W cs + length b) (over 0 (from cs (after_half left))) None (over_at_least (total W cs + length b) (total W cs + length b) 0 (from cs (after_half left)) (more (after_half left) f) (omega arith)) tt)
 
   one_at_least : (c : ℕ) (cs : List ℕ) (e : Choice) → PaysOne g.table spot W c e → Whole cs → AtLeast (total W (c ∷ cs) + length b) (over (length e.bytes) (from cs e.to))
   one_at_least c cs e one more = let pays = one.pays in over_at_least (total W (c ∷ cs) + length b) (total W cs + length b) (length e.bytes) (from cs e.to) (more e.to one.fits) (omega (arith, pays))
@@ -236,5 +236,5 @@ module _ (g : Spelling) (table : IsTable g.table) (at : Where) (b : List ℕ) (t
   value_at_least (c ∷ x ∷ cs) h p f = edges_at_least c (x ∷ cs) p h.0 f (by (value_at_least (x ∷ cs) h.1) (value_at_least cs h.1.1))
     where
       by : Whole (x ∷ cs) → Whole cs → (e : Choice) → Pays g.table spot W c (Some x) e → AtLeast (total W (c ∷ x ∷ cs) + length b) (over (length e.bytes) (from (x ∷ cs) e.to))
-      by next behind e (inl one) = one_at_least c (x ∷ cs) e one next
-      by next behind e (inr (d, is, two)) = two_at_least c x cs e (subst (λ y. PaysTwo g.table spot W c y e) (let same : d ≡ x = cc in same) two) behind
+      by next after e (inl one) = one_at_least c (x ∷ cs) e one next
+      by next after e (inr (d, is, two)) = two_at_least c x cs e (subst (λ y. PaysTwo g.table spot W c y e) (let same : d ≡ x = cc in same) two) after

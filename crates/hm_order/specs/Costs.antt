@@ -1,11 +1,11 @@
 -- How many bytes the attributes of a tag take, by which of them is the last.
 use Rattle.std.specs.Prelude.{ℕ, ◌+◌, Bool, ◌&&◌, List, [], ◌∷◌, ◌++◌, length, Option, Some, None, if◌then◌else◌, chars}
-use Rattle.hm_graph_laws.specs.AttributeEdges.{gap_at, is_behind_unquoted}
+use Rattle.hm_graph_laws.specs.AttributeEdges.{gap_at, is_after_unquoted}
 use Rattle.hm_base.specs.Walks.{Attribute}
 use Rattle.hm_graph_laws.specs.UnitEdges.{edges_of}
 use Rattle.hm_graph_laws.specs.Ways.{least, lesser, over}
 use Rattle.hm_spelling_spec.specs.Tags.{Spelling}
-use Rattle.hm_graph_laws.specs.States.{Where, behind_name, behind_unquoted, behind_quoted, in_unquoted, in_double, in_single, nothing, state}
+use Rattle.hm_graph_laws.specs.States.{Where, after_name, after_unquoted, after_quoted, in_unquoted, in_double, in_single, nothing, state}
 use Rattle.hm_graph_laws.specs.Units.{Unit, in_value, character_units, attribute_end}
 
 -- the sum of two prices, closed where one of them is
@@ -24,11 +24,11 @@ value_cost g at value = least (edges_of g) (value_units value) (state at nothing
 -- The fewest bytes of an attribute in any form, where so many bytes are counted after it, by where it leaves the tag. The byte in
 -- front of it isn't counted.
 abbrev pub cost_of : Spelling → (Where → ℕ) → List ℕ → List ℕ → Option ℕ
-cost_of g behind name [] = Some (length name + behind behind_name)
-cost_of g behind name (c ∷ s) =
-    lesser (if g.rules.unquote then over (length name + 1) (plus (value_cost g in_unquoted (c ∷ s)) (Some (behind behind_unquoted))) else None)
-    (lesser (over (length name + 2) (plus (value_cost g in_double (c ∷ s)) (Some (behind behind_quoted))))
-    (over (length name + 2) (plus (value_cost g in_single (c ∷ s)) (Some (behind behind_quoted)))))
+cost_of g after name [] = Some (length name + after after_name)
+cost_of g after name (c ∷ s) =
+    lesser (if g.rules.unquote then over (length name + 1) (plus (value_cost g in_unquoted (c ∷ s)) (Some (after after_unquoted))) else None)
+    (lesser (over (length name + 2) (plus (value_cost g in_double (c ∷ s)) (Some (after after_quoted))))
+    (over (length name + 2) (plus (value_cost g in_single (c ∷ s)) (Some (after after_quoted)))))
 
 -- an attribute with another one after it: the gap between them is counted
 abbrev pub inner_cost : Spelling → Attribute → Option ℕ
@@ -36,7 +36,7 @@ inner_cost g a = cost_of g (λ at. length (gap_at g.rules.tight at)) a.name a.va
 
 -- the last attribute: a space is counted between a value without quotes and the '/' of a tag that closes itself
 abbrev pub last_cost : Spelling → Bool → Attribute → Option ℕ
-last_cost g closes a = cost_of g (λ at. if closes && is_behind_unquoted at then 1 else 0) a.name a.value
+last_cost g closes a = cost_of g (λ at. if closes && is_after_unquoted at then 1 else 0) a.name a.value
 
 -- all attributes of a tag, in their order
 abbrev pub attributes_cost : Spelling → Bool → Attribute → List Attribute → Option ℕ

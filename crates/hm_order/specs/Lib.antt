@@ -1,5 +1,5 @@
-pub use Rattle.hm_plan.specs.Minified
-pub use Rattle.hm_plan.specs.Shortest
+pub use Rattle.hm_shortest.specs.Minified
+pub use Rattle.hm_shortest.specs.Shortest
 pub use Rattle.hm_graph_laws.specs.ExchangeLaws
 pub use Rattle.hm_graph_laws.specs.Units
 pub use Rattle.hm_spelling_spec.specs.Spellings

@@ -8,7 +8,7 @@ ghost use Rattle.hm_order.specs.Weights as weights;
 
 use crate::scan::scan;
 use crate::tags::last_alone;
-use hm_base::{Memory, SpellRules};
+use hm_base::{OutOfMemory, SpellRules};
 use hm_refs::Table;
 use hm_refs::laws::every_table;
 use std::alloc::Global;
@@ -77,7 +77,7 @@ fn graph_cost(
     name: &str,
     value: &str,
     closes: bool,
-) -> Result<AttrCost, Memory>
+) -> Result<AttrCost, OutOfMemory>
     requires some { 0 < length value.now }
     requires name { length name.now < 2 ^ 27 }
     requires value { length value.now < 2 ^ 27 }
@@ -104,13 +104,13 @@ pub fn attr_cost(
     name: &str,
     value: &str,
     closes: bool,
-) -> Result<AttrCost, Memory>
+) -> Result<AttrCost, OutOfMemory>
     ensures inner { IfOk result (λ cost. inner_cost (sparing_plain table.now.entries rules) (record { name = name.now; value = value.now }) ≡ Some cost.inner) }
     ensures last { IfOk result (λ cost. last_cost (sparing_plain table.now.entries rules) closes (record { name = name.now; value = value.now }) ≡ Some cost.last) }
     ensures low { IfOk result IsLowCost }
 {
     if name.len() >= LONG || value.len() >= LONG {
-        return Err(Memory);
+        return Err(OutOfMemory);
     }
     if value.is_empty() {
         return Ok(bare_cost(name));

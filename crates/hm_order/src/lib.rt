@@ -9,5 +9,5 @@ mod scan;
 mod tags;
 
 pub use costs::{AttrCost, attr_cost, best_last};
-pub use hm_plan::{Minified, minify_tree};
+pub use hm_shortest::{Minified, minify_tree};
 pub use orders::reorder;

@@ -13,7 +13,7 @@ ghost use Rattle.hm_tree.specs.Moved.{moved, put_last};
 ghost use Rattle.hm_tree.specs.Views.{attributes_shown, event_of};
 
 use crate::costs::{AttrCost, attr_cost, best_last};
-use hm_base::{Memory, SpellRules};
+use hm_base::{OutOfMemory, SpellRules};
 use hm_refs::Table;
 use hm_refs::laws::every_table;
 use hm_tree::{AttrsView, EventView, Tree};
@@ -23,7 +23,12 @@ use std::alloc::Global;
 /// one goes last. They are put into order in place.
 ///
 /// Memory counts as refused where an attribute has a name or a value of 2^27 bytes or more.
-pub fn reorder(alloc: Global, tree: Tree, table: &Table, rules: SpellRules) -> Result<Tree, Memory>
+pub fn reorder(
+    alloc: Global,
+    tree: Tree,
+    table: &Table,
+    rules: SpellRules,
+) -> Result<Tree, OutOfMemory>
     ensures ok { IfOk result (λ made. made ≡ reordered (sparing_plain table.now.entries rules) tree) }
     ensures like { IfOk result (λ made. Like tree made) }
     ensures settled { Settled tree → IfOk result (λ made. Settled made) }
@@ -42,7 +47,7 @@ fn order_tags(
     tree: &mut Tree,
     table: &Table,
     rules: SpellRules,
-) -> Result<(), Memory>
+) -> Result<(), OutOfMemory>
     ensures { OnOk result (tree.new ≡ reordered (sparing_plain table.now.entries rules) tree.old) }
 {
     let mut costs = Vec::new(alloc);
@@ -60,7 +65,7 @@ fn order_tag(
     i: u32,
     table: &Table,
     rules: SpellRules,
-) -> Result<(), Memory>
+) -> Result<(), OutOfMemory>
     requires { i < length tree.old }
     ensures { OnOk result (tree.new ≡ ordered_at (sparing_plain table.now.entries rules) tree.old i) }
 {
@@ -78,7 +83,7 @@ fn last_of(
     i: u32,
     table: &Table,
     rules: SpellRules,
-) -> Result<Option<u32>, Memory>
+) -> Result<Option<u32>, OutOfMemory>
     requires { i < length tree.now }
     ensures { IfOk result (IsOrderedBy (sparing_plain table.now.entries rules) tree.now i) }
 {
@@ -96,11 +101,11 @@ fn closes_itself(tree: &Tree, i: u32, foreign: bool) -> bool
     requires { i < length tree.now }
     ensures { result ≡ (foreign && is_end (slice_get tree.now (i + 1))) }
 {
-    foreign && is_end_behind(tree, i)
+    foreign && is_end_after(tree, i)
 }
 
 // Whether event `i` is directly before an end.
-fn is_end_behind(tree: &Tree, i: u32) -> bool
+fn is_end_after(tree: &Tree, i: u32) -> bool
     requires { i < length tree.now }
     ensures { result ≡ is_end (slice_get tree.now (i + 1)) }
 {
@@ -126,7 +131,7 @@ fn find_last(
     closes: bool,
     table: &Table,
     rules: SpellRules,
-) -> Result<u32, Memory>
+) -> Result<u32, OutOfMemory>
     requires some { 0 < length (attributes_shown attrs.now) }
     requires few { length (attributes_shown attrs.now) < 2 ^ 32 }
     ensures inside { IfOk result (λ last. last < length (attributes_shown attrs.now)) }

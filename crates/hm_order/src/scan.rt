@@ -81,11 +81,11 @@ fn run(table: &Table, pending: Pending, bytes: &[u8]) -> Option<Pending>
     ensures run { option_map (pending_of table.now) result ≡ steps.run table.now.entries double (Some (pending_of table.now pending)) bytes.now }
     ensures nodes { IfSome result (HasNodes table.now) }
 {
-    let mut behind = pending;
+    let mut after = pending;
     for byte in bytes {
-        behind = step(behind, table, Spot::Double, *byte)?;
+        after = step(after, table, Spot::Double, *byte)?;
     }
-    Some(behind)
+    Some(after)
 }
 
 // What is pending after a character as itself in a value. None where it makes something else of what is pending.
@@ -95,16 +95,16 @@ fn literal(table: &Table, pending: Pending, c: char) -> Option<Pending>
     ensures nodes { IfSome result (HasNodes table.now) }
 {
     let mut buffer = [0; 4];
-    let behind = run(table, pending, c.encode_utf8(&mut buffer).as_bytes())?;
+    let after = run(table, pending, c.encode_utf8(&mut buffer).as_bytes())?;
     if c == '&' {
         let node: Node = table.root();
         return Some(Pending::Ampersand { node });
     }
-    Some(behind)
+    Some(after)
 }
 
 // The same, at once where nothing is pending.
-fn literal_behind(table: &Table, pending: Pending, c: char) -> Option<Pending>
+fn literal_after(table: &Table, pending: Pending, c: char) -> Option<Pending>
     requires { HasNodes table.now pending }
     ensures literal { option_map (pending_of table.now) result ≡ weights.literal table.now.entries double (Some (pending_of table.now pending)) c }
     ensures nodes { IfSome result (HasNodes table.now) }
@@ -140,7 +140,7 @@ fn seen_with(table: &Table, ascii: bool, low: bool, seen: Seen, c: char) -> Opti
     if !is_easy(table, ascii, low, c) {
         return None;
     }
-    let pending = literal_behind(table, seen.pending, c)?;
+    let pending = literal_after(table, seen.pending, c)?;
     Some(Seen {
         barred: seen.barred || is_barred(c),
         pending,

@@ -5,10 +5,10 @@ ghost use Rattle.hm_order.specs.Alone as alone;
 ghost use Rattle.hm_order.specs.Alone.{walk_alone};
 ghost use Rattle.hm_order.specs.Costs as costs;
 
-use hm_base::{Memory, SpellRules};
-use hm_plan::least_price;
+use hm_base::{OutOfMemory, SpellRules};
 use hm_refs::Table;
 use hm_refs::laws::every_table;
+use hm_shortest::least_price;
 use hm_tree::{Attrs, Tree};
 use std::alloc::Global;
 
@@ -27,7 +27,7 @@ fn element_alone(closes: bool) -> &'static str
 
 // The attributes of a tag with this one alone.
 #[inline(always)]
-fn attrs_alone(alloc: Global, name: &str, value: &str) -> Result<Attrs, Memory>
+fn attrs_alone(alloc: Global, name: &str, value: &str) -> Result<Attrs, OutOfMemory>
     ensures { IfOk result (λ attrs. attrs ≡ record { name = name.now; value = value.now } ∷ []) }
 {
     let mut attrs = Attrs::new(alloc);
@@ -36,7 +36,7 @@ fn attrs_alone(alloc: Global, name: &str, value: &str) -> Result<Attrs, Memory>
 }
 
 // The tree of an element with this attribute alone.
-fn tree_alone(alloc: Global, name: &str, value: &str, closes: bool) -> Result<Tree, Memory>
+fn tree_alone(alloc: Global, name: &str, value: &str, closes: bool) -> Result<Tree, OutOfMemory>
     requires name { length name.now < 2 ^ 27 }
     requires value { length value.now < 2 ^ 27 }
     ensures { IfOk result (λ tree. tree ≡ walk_alone closes (record { name = name.now; value = value.now })) }
@@ -56,7 +56,7 @@ pub(crate) fn last_alone(
     name: &str,
     value: &str,
     closes: bool,
-) -> Result<u64, Memory>
+) -> Result<u64, OutOfMemory>
     requires name { length name.now < 2 ^ 27 }
     requires value { length value.now < 2 ^ 27 }
     ensures cost { IfOk result (λ cost. costs.last_cost (sparing_plain table.now.entries rules) closes (record { name = name.now; value = value.now }) ≡ Some cost) }
@@ -66,7 +66,7 @@ pub(crate) fn last_alone(
     let tree = tree_alone(alloc, name, value, closes)?;
     let price = least_price(alloc, &tree, table, rules)?;
     if price >= HIGH {
-        return Err(Memory);
+        return Err(OutOfMemory);
     }
     Ok(price - AROUND)
 }

@@ -8,9 +8,9 @@
 mod pieces;
 mod rows;
 
-use hm_base::Memory;
-use hm_gen::page_of;
+use hm_base::OutOfMemory;
 use hm_html_names::html_table;
+use hm_measure_page::page_of;
 use hm_refs::Table;
 use pieces::{agrees_in_pieces, agrees_in_two};
 use std::alloc::Global;
@@ -29,10 +29,10 @@ const CHANGES: u32 = 12;
 const CHANGED_TO: &[u8] = b"<>&/!-\"'= \r\n;a\x00\xff";
 
 /// An answer whose error is want of memory.
-pub fn kept<T>(answer: Result<T, Memory>) -> io::Result<T> {
+pub fn kept<T>(answer: Result<T, OutOfMemory>) -> io::Result<T> {
     match answer {
         Ok(value) => Ok(value),
-        Err(Memory) => Err(io::Error::from(ErrorKind::OutOfMemory)),
+        Err(OutOfMemory) => Err(io::Error::from(ErrorKind::OutOfMemory)),
     }
 }
 

@@ -1,8 +1,8 @@
 //! A page in pieces beside the whole page.
 ghost use Rattle.std.specs.Prelude.{◌≤◌};
 
-use hm_base::{Memory, PAGE_LIMIT, Refused, SourceText};
-use hm_load::{Builder, parse};
+use hm_base::{OutOfMemory, PAGE_LIMIT, Refused, SourceText};
+use hm_page_loading::{Builder, parse};
 use hm_refs::Table;
 use hm_tree::Tree;
 use std::alloc::Global;
@@ -48,7 +48,7 @@ fn of_whole(alloc: Global, table: &Table, page: &[u8]) -> Result<Tree, Refused> 
 fn of_pieces(alloc: Global, table: &Table, page: &[u8], cutting: Cutting) -> Result<Tree, Refused> {
     let mut builder = match Builder::new(alloc, table, PAGE_LIMIT) {
         Ok(builder) => builder,
-        Err(Memory) => return Err(Refused::Memory),
+        Err(OutOfMemory) => return Err(Refused::OutOfMemory),
     };
     let mut chance = 1;
     let mut left = page;
@@ -57,8 +57,8 @@ fn of_pieces(alloc: Global, table: &Table, page: &[u8], cutting: Cutting) -> Res
             break;
         }
         let size = size_of(cutting, piece == 0, chance, left.len());
-        if let Err(Memory) = builder.feed(&left[..size]) {
-            return Err(Refused::Memory);
+        if let Err(OutOfMemory) = builder.feed(&left[..size]) {
+            return Err(Refused::OutOfMemory);
         }
         left = &left[size..];
         chance = next(chance);

@@ -1,7 +1,7 @@
 //! How many elements are open after each piece of a page.
 use crate::kept;
 use hm_base::PAGE_LIMIT;
-use hm_load::Builder;
+use hm_page_loading::Builder;
 use hm_refs::Table;
 use std::alloc::Global;
 use std::io;

@@ -3,8 +3,8 @@ use crate::printed::is_value;
 use crate::rows::{cut, expect};
 use hm_elements::{
     Kind, Named, class_of, closes_p, ends_with, holds_text, is_block, is_boolean, is_boundary,
-    is_heading, is_one_of, is_raw, is_refused, is_unnested, is_void, kind_of, may_stand, same_name,
-    svg_name, yields,
+    is_closed_by_start, is_heading, is_one_of, is_raw, is_refused, is_unnested, is_void, kind_of,
+    may_stand, same_name, svg_name,
 };
 
 /// A name before ` ⇒ ` in each line, and after it the class of the name.
@@ -155,8 +155,8 @@ fn mark(kind: Kind, mark: &str) -> Option<bool> {
         "closes_p" => Some(kind.closes_p),
         "boundary" => Some(kind.boundary),
         "block" => Some(kind.block),
-        "yields" => Some(kind.yields),
-        "p_yields" => Some(kind.p_yields),
+        "yields" => Some(kind.is_closed_by_start),
+        "p_yields" => Some(kind.closes_open_p),
         "ends" => Some(kind.ends),
         "p_ends" => Some(kind.p_ends),
         "has_children" => Some(kind.has_children),
@@ -253,7 +253,10 @@ fn is_closing(line: &str) -> bool {
     let current = Named::of(current);
     is_value(
         wanted,
-        &(yields(current, Named::of(next)), ends_with(current, next)),
+        &(
+            is_closed_by_start(current, Named::of(next)),
+            ends_with(current, next),
+        ),
     )
 }
 

@@ -14,11 +14,11 @@ use std::test::Fail;
 /// What a fragment is read as. It is put after the front first.
 fn read(alloc: Global, table: &Table, fragment: &[u8]) -> Result<Tree, Refused> {
     if fragment.len() > 100 {
-        return Err(Refused::Memory);
+        return Err(Refused::OutOfMemory);
     }
     let mut page = Vec::new(alloc);
     if page.extend_from_slice(front()).is_err() || page.extend_from_slice(fragment).is_err() {
-        return Err(Refused::Memory);
+        return Err(Refused::OutOfMemory);
     }
     read_fragment(alloc, page, table)
 }
@@ -43,7 +43,7 @@ fn is_read(alloc: Global, table: &Table, fragment: &[u8], wanted: &str) -> bool 
     match read(alloc, table, fragment) {
         Ok(tree) => is_written(alloc, &tree, wanted),
         Err(Refused::Page { rule, at }) => is_value(wanted, &(rule, at)),
-        Err(Refused::Memory) => false,
+        Err(Refused::OutOfMemory) => false,
     }
 }
 
@@ -59,7 +59,7 @@ const TREES: &str = "\
     <p title=\"</body>\"> ⇒ [\"start\",\"p\",[[\"title\",\"</body>\"]]],[\"end\"],\n";
 
 /// The same with the first token that closes body, where the page isn't refused.
-const CLOSED: &str = "\
+const INFINITE: &str = "\
     a</body> ⇒ (FrameEnd, 1)\n\
     a</html> ⇒ (FrameEnd, 1)\n\
     </body></html> ⇒ (FrameEnd, 0)\n\
@@ -125,7 +125,7 @@ fn expect_others(rt: &impl Abort, alloc: Global, table: &Table) {
 fn fragments_have_trees_or_refusals(rt: HostRuntime) -> Result<(), Fail> {
     let table = Table::empty(rt.alloc())?;
     expect_lines(&rt, rt.alloc(), &table, TREES);
-    expect_lines(&rt, rt.alloc(), &table, CLOSED);
+    expect_lines(&rt, rt.alloc(), &table, INFINITE);
     expect_lines(&rt, rt.alloc(), &table, REFUSED);
     expect_others(&rt, rt.alloc(), &table);
     Ok(())

@@ -1,7 +1,7 @@
 //! Pages, and what is printed of their tokens.
 mod cases;
 
-use crate::printed::{behind, behind_attributes, behind_shown, behind_value, is_value};
+use crate::printed::{after, after_attributes, after_shown, after_value, is_value};
 use crate::rows::{cut, expect};
 use cases::{ELEMENTS, ORDINARY, TAGS};
 use hm_base::{OUTPUT_LIMIT, Points, Refused, SourceText};
@@ -16,7 +16,7 @@ const NAMES: &str =
     "{\"&amp\":{\"codepoints\":[38]},\"&amp;\":{\"codepoints\":[38]},\"&lt\":{\"codepoints\":[60]},\"&lt;\":{\"codepoints\":[60]},\"&not\":{\"codepoints\":[172]},\"&not;\":{\"codepoints\":[172]},\"&notin;\":{\"codepoints\":[8713]},\"&nesim;\":{\"codepoints\":[8770,824]}}";
 
 /// The mode after a token, as an element that it opens or closes sets it.
-fn mode_behind(token: &Token, mode: Mode) -> Mode {
+fn mode_after(token: &Token, mode: Mode) -> Mode {
     match token {
         Token::StartTag { name, .. } if mode == Mode::Html => opened_mode(name.text.as_str()),
         Token::EndTag { name } if mode != Mode::Foreign || name.text.as_str() == "svg" => {
@@ -53,35 +53,32 @@ fn piece(text: &str, from: u32, to: u32) -> &str {
 }
 
 /// What is wanted after one or two code points.
-fn behind_points<'w>(wanted: &'w str, points: Points) -> &'w str {
-    let rest = behind_shown(wanted, &points.first);
+fn after_points<'w>(wanted: &'w str, points: Points) -> &'w str {
+    let rest = after_shown(wanted, &points.first);
     match points.second {
-        Some(second) => behind_shown(rest, &second),
+        Some(second) => after_shown(rest, &second),
         None => rest,
     }
 }
 
 /// What is wanted after a start tag with its attributes.
-fn behind_start<'w>(wanted: &'w str, name: &str, attrs: &Attrs, slash: bool) -> &'w str {
-    let rest = behind_attributes(behind(behind(wanted, "<"), name), attrs);
-    behind(rest, if slash { "/>" } else { ">" })
+fn after_start<'w>(wanted: &'w str, name: &str, attrs: &Attrs, slash: bool) -> &'w str {
+    let rest = after_attributes(after(after(wanted, "<"), name), attrs);
+    after(rest, if slash { "/>" } else { ">" })
 }
 
 /// What is wanted after a token: a tag with its attributes, a comment with its text, a doctype by its form, or text as it stands.
-fn behind_token<'w>(wanted: &'w str, text: &str, token: &Token) -> &'w str {
+fn text_after_token<'w>(wanted: &'w str, text: &str, token: &Token) -> &'w str {
     match token {
-        Token::Doctype { legacy } => behind(wanted, if *legacy { "<!legacy>" } else { "<!html>" }),
+        Token::Doctype { legacy } => after(wanted, if *legacy { "<!legacy>" } else { "<!html>" }),
         Token::StartTag { name, attrs, slash } => {
-            behind_start(wanted, name.text.as_str(), attrs, *slash)
+            after_start(wanted, name.text.as_str(), attrs, *slash)
         }
-        Token::EndTag { name } => behind(behind(behind(wanted, "</"), name.text.as_str()), ">"),
-        Token::Slice { from, to } => behind(wanted, piece(text, *from, *to)),
-        Token::Points { points } => behind_points(wanted, *points),
+        Token::EndTag { name } => after(after(after(wanted, "</"), name.text.as_str()), ">"),
+        Token::Slice { from, to } => after(wanted, piece(text, *from, *to)),
+        Token::Points { points } => after_points(wanted, *points),
         Token::Comment { from, to } => {
-            behind(
-                behind(behind(wanted, "<!--"), piece(text, *from, *to)),
-                "-->",
-            )
+            after(after(after(wanted, "<!--"), piece(text, *from, *to)), "-->")
         }
     }
 }
@@ -97,8 +94,8 @@ struct Stand<'w> {
 }
 
 /// What is wanted where text follows or doesn't: after the bar, where text begins or ends.
-fn behind_bar<'w>(stand: Stand<'w>, is_text: bool) -> &'w str {
-    behind(
+fn after_bar<'w>(stand: Stand<'w>, is_text: bool) -> &'w str {
+    after(
         stand.wanted,
         if stand.in_text == is_text { "" } else { "|" },
     )
@@ -107,23 +104,23 @@ fn behind_bar<'w>(stand: Stand<'w>, is_text: bool) -> &'w str {
 /// Where the comparison stands after a token.
 fn after_token<'w>(stand: Stand<'w>, text: &str, token: &Token) -> Stand<'w> {
     let in_text = matches!(token, Token::Slice { .. } | Token::Points { .. });
-    let wanted = behind_bar(stand, in_text);
+    let wanted = after_bar(stand, in_text);
     Stand {
-        mode: mode_behind(token, stand.mode),
+        mode: mode_after(token, stand.mode),
         in_text,
         over: false,
-        wanted: behind_token(wanted, text, token),
+        wanted: text_after_token(wanted, text, token),
     }
 }
 
 /// What is wanted after a refusal: its rule and its place.
-fn behind_refusal<'w>(wanted: &'w str, refusal: Refused) -> &'w str {
+fn after_refusal<'w>(wanted: &'w str, refusal: Refused) -> &'w str {
     match refusal {
         Refused::Page { rule, at } => {
-            let place = behind(behind(behind(wanted, "!"), rule.name()), " at ");
-            behind_value(place, &at)
+            let place = after(after(after(wanted, "!"), rule.name()), " at ");
+            after_value(place, &at)
         }
-        Refused::Memory => "?",
+        Refused::OutOfMemory => "?",
     }
 }
 
@@ -132,7 +129,7 @@ fn after_next<'w>(alloc: Global, lexer: &mut Lexer<'_>, text: &str, stand: Stand
     if stand.over {
         return stand;
     }
-    let wanted = behind_bar(stand, false);
+    let wanted = after_bar(stand, false);
     match lexer.next(alloc, stand.mode) {
         Ok(Some(spanned)) => after_token(stand, text, &spanned.token),
         Ok(None) => Stand {
@@ -142,7 +139,7 @@ fn after_next<'w>(alloc: Global, lexer: &mut Lexer<'_>, text: &str, stand: Stand
         },
         Err(refusal) => Stand {
             over: true,
-            wanted: behind_refusal(wanted, refusal),
+            wanted: after_refusal(wanted, refusal),
             ..stand
         },
     }

@@ -5,7 +5,7 @@ ghost use Rattle.std.specs.Prelude.{◌+◌, ◌^◌, ◌<◌, ◌≤◌, ℕ, [
 ghost use Rattle.hm_base.specs.Walks.{attributes_size, path_after, walk_size};
 ghost use Rattle.hm_tree.specs.Edits.{HasAttribute};
 
-use hm_base::Memory;
+use hm_base::OutOfMemory;
 use hm_tree::{Attrs, Editor, EventView, Maker, Tree};
 use std::alloc::{AllocError, Global};
 use std::process::Abort;
@@ -16,20 +16,20 @@ fn numbered(alloc: Global, i: u32) -> Result<String, AllocError> {
 }
 
 /// Adds an attribute whose value is its name.
-fn put(attrs: &mut Attrs, name: &str) -> Result<(), Memory>
+fn put(attrs: &mut Attrs, name: &str) -> Result<(), OutOfMemory>
     requires { length attrs.old < 1000 }
     ensures count { OnOk result (length attrs.new ≤ length attrs.old + 1) }
     ensures size { OnOk result (attributes_size attrs.new ≤ attributes_size attrs.old + 20) }
 {
     if name.len() > 10 {
-        return Err(Memory);
+        return Err(OutOfMemory);
     }
     attrs.put(name, name)?;
     Ok(())
 }
 
 /// Adds attribute `i`.
-fn add(alloc: Global, attrs: &mut Attrs, i: u32) -> Result<(), Memory>
+fn add(alloc: Global, attrs: &mut Attrs, i: u32) -> Result<(), OutOfMemory>
     requires { length attrs.old < 1000 }
     ensures count { OnOk result (length attrs.new ≤ length attrs.old + 1) }
     ensures size { OnOk result (attributes_size attrs.new ≤ attributes_size attrs.old + 20) }
@@ -39,7 +39,7 @@ fn add(alloc: Global, attrs: &mut Attrs, i: u32) -> Result<(), Memory>
 }
 
 /// So many attributes.
-fn attributes(alloc: Global, count: u32) -> Result<Attrs, Memory>
+fn attributes(alloc: Global, count: u32) -> Result<Attrs, OutOfMemory>
     requires { count < 1000 }
     ensures { IfOk result (λ attrs. attributes_size attrs ≤ 20000) }
 {
@@ -51,7 +51,7 @@ fn attributes(alloc: Global, count: u32) -> Result<Attrs, Memory>
 }
 
 /// A name of so many bytes.
-fn long_name(alloc: Global, len: u32) -> Result<String, Memory> {
+fn long_name(alloc: Global, len: u32) -> Result<String, OutOfMemory> {
     let mut name = String::new(alloc);
     for _ in 0..len {
         name.push_str("n")?;
@@ -59,7 +59,7 @@ fn long_name(alloc: Global, len: u32) -> Result<String, Memory> {
     Ok(name)
 }
 
-fn start(maker: &mut Maker, name: &str, attrs: &Attrs) -> Result<(), Memory>
+fn start(maker: &mut Maker, name: &str, attrs: &Attrs) -> Result<(), OutOfMemory>
     requires events { length maker.old + length (path_after [] maker.old) + 2 < 2 ^ 29 }
     requires bytes { walk_size maker.old + 21000 < 2 ^ 29 }
     requires attrs { attributes_size attrs.now ≤ 20000 }
@@ -67,22 +67,22 @@ fn start(maker: &mut Maker, name: &str, attrs: &Attrs) -> Result<(), Memory>
     ensures bytes { OnOk result (walk_size maker.new ≤ walk_size maker.old + 21000) }
 {
     if name.len() > 1000 {
-        return Err(Memory);
+        return Err(OutOfMemory);
     }
     maker.start_from(name, false, attrs)?;
     Ok(())
 }
 
-fn end(maker: &mut Maker) -> Result<(), Memory> {
+fn end(maker: &mut Maker) -> Result<(), OutOfMemory> {
     if maker.depth() == 0 {
-        return Err(Memory);
+        return Err(OutOfMemory);
     }
     maker.end()?;
     Ok(())
 }
 
 /// Starts an element with this name and these attributes, and in it another one with the same attributes, and ends both.
-fn fill(maker: &mut Maker, name: &str, attrs: &Attrs) -> Result<(), Memory>
+fn fill(maker: &mut Maker, name: &str, attrs: &Attrs) -> Result<(), OutOfMemory>
     requires events { length maker.old + length (path_after [] maker.old) + 4 < 2 ^ 29 }
     requires bytes { walk_size maker.old + 42000 < 2 ^ 29 }
     requires attrs { attributes_size attrs.now ≤ 20000 }
@@ -93,27 +93,27 @@ fn fill(maker: &mut Maker, name: &str, attrs: &Attrs) -> Result<(), Memory>
     end(maker)
 }
 
-fn made(alloc: Global, name: &str, attrs: &Attrs) -> Result<Tree, Memory>
+fn made(alloc: Global, name: &str, attrs: &Attrs) -> Result<Tree, OutOfMemory>
     requires { attributes_size attrs.now ≤ 20000 }
 {
     let mut maker = Tree::maker(alloc);
     fill(&mut maker, name, attrs)?;
     if maker.depth() > 0 {
-        return Err(Memory);
+        return Err(OutOfMemory);
     }
     Ok(maker.finish())
 }
 
-fn made_named(alloc: Global, name: &str, count: u32) -> Result<Tree, Memory> {
+fn made_named(alloc: Global, name: &str, count: u32) -> Result<Tree, OutOfMemory> {
     if count >= 1000 {
-        return Err(Memory);
+        return Err(OutOfMemory);
     }
     let attrs = attributes(alloc, count)?;
     made(alloc, name, &attrs)
 }
 
 /// The tree of these two, where the name has so many bytes and there are so many attributes.
-fn made_of(alloc: Global, len: u32, count: u32) -> Result<Tree, Memory> {
+fn made_of(alloc: Global, len: u32, count: u32) -> Result<Tree, OutOfMemory> {
     let name = long_name(alloc, len)?;
     made_named(alloc, name.as_str(), count)
 }

@@ -1,7 +1,7 @@
 //! What each scan reads, after the tokenization of the HTML Standard (#tokenization).
 ghost use Rattle.std.specs.Prelude.{◌^◌, ◌<◌, length, IsTrue, IsCharBoundary};
 
-use crate::printed::{behind, is_value};
+use crate::printed::{after, is_value};
 use crate::rows::{cut, expect};
 use hm_scan::{
     begins_cdata, begins_comment, begins_doctype, scan_cdata, scan_comment, scan_doctype, scan_raw,
@@ -20,7 +20,7 @@ fn is_short(text: &str) -> bool
 fn is_piece(text: &str, from: u32, to: u32, place: u32, wanted: &str) -> bool {
     let piece = text.get(from as usize..to as usize).unwrap_or("?");
     let rest = text.get(place as usize..).unwrap_or("?");
-    behind(behind(behind(wanted, piece), " ⇒ "), rest).is_empty()
+    after(after(after(wanted, piece), " ⇒ "), rest).is_empty()
 }
 
 /// Whether a token and the rest after it are wanted: its piece of the text and ` ⇒ ` before that rest, or, of a doctype,

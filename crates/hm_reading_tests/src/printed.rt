@@ -6,17 +6,17 @@ use std::fmt::{self, Debug, Display, Write};
 const OTHER: &str = "\0";
 
 /// What is wanted after a text.
-pub(crate) fn behind<'w>(wanted: &'w str, text: &str) -> &'w str {
+pub(crate) fn after<'w>(wanted: &'w str, text: &str) -> &'w str {
     wanted.strip_prefix(text).unwrap_or(OTHER)
 }
 
 /// What is wanted after ` name=[value]` for each attribute.
-pub(crate) fn behind_attributes<'w>(wanted: &'w str, attrs: &Attrs) -> &'w str {
+pub(crate) fn after_attributes<'w>(wanted: &'w str, attrs: &Attrs) -> &'w str {
     let mut rest = wanted;
     for i in 0..attrs.len() {
         let (name, value) = attrs.at(i);
-        rest = behind(behind(rest, " "), name);
-        rest = behind(behind(behind(rest, "=["), value), "]");
+        rest = after(after(rest, " "), name);
+        rest = after(after(after(rest, "=["), value), "]");
     }
     rest
 }
@@ -29,13 +29,13 @@ struct Wanted<'w> {
 
 impl Write for Wanted<'_> {
     fn write_str(&mut self, text: &str) -> fmt::Result {
-        self.rest = behind(self.rest, text);
+        self.rest = after(self.rest, text);
         Ok(())
     }
 }
 
 /// What is wanted after a value that is printed by `{}`.
-pub(crate) fn behind_shown<'w>(wanted: &'w str, value: &impl Display) -> &'w str {
+pub(crate) fn after_shown<'w>(wanted: &'w str, value: &impl Display) -> &'w str {
     let mut left = Wanted { rest: wanted };
     match write!(left, "{value}") {
         Ok(()) => left.rest,
@@ -44,7 +44,7 @@ pub(crate) fn behind_shown<'w>(wanted: &'w str, value: &impl Display) -> &'w str
 }
 
 /// What is wanted after a value that is printed by `{:?}`.
-pub(crate) fn behind_value<'w>(wanted: &'w str, value: &impl Debug) -> &'w str {
+pub(crate) fn after_value<'w>(wanted: &'w str, value: &impl Debug) -> &'w str {
     let mut left = Wanted { rest: wanted };
     match write!(left, "{value:?}") {
         Ok(()) => left.rest,
@@ -54,12 +54,12 @@ pub(crate) fn behind_value<'w>(wanted: &'w str, value: &impl Debug) -> &'w str {
 
 /// Whether a value is printed so by `{}`.
 pub(crate) fn is_shown(wanted: &str, value: &impl Display) -> bool {
-    behind_shown(wanted, value).is_empty()
+    after_shown(wanted, value).is_empty()
 }
 
 /// Whether a value is printed so by `{:?}`.
 pub(crate) fn is_value(wanted: &str, value: &impl Debug) -> bool {
-    behind_value(wanted, value).is_empty()
+    after_value(wanted, value).is_empty()
 }
 
 /// Whether bytes are those of three texts, one after the other.

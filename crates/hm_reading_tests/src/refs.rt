@@ -3,7 +3,7 @@ ghost use Rattle.hm_refs.specs.Tables.{IsNode};
 
 mod standard;
 
-use crate::printed::{behind, behind_shown, is_shown, is_value};
+use crate::printed::{after, after_shown, is_shown, is_value};
 use crate::rows::{cut, expect};
 use hm_base::Points;
 use hm_refs::{NameId, Node, Table, best_number, number_value};
@@ -214,7 +214,7 @@ fn is_plain(table: &Table, line: &str) -> bool {
     let mut rest = wanted;
     for c in text.chars() {
         if table.is_plain(c) {
-            rest = behind_shown(rest, &c);
+            rest = after_shown(rest, &c);
         }
     }
     rest.is_empty()
@@ -281,9 +281,9 @@ fn table_of(alloc: Global, names: &str) -> Option<Table> {
 
 /// Whether these are the code points of a name in decimal, with a comma between two.
 fn are_points(wanted: &str, points: Points) -> bool {
-    let first = behind_shown(wanted, &(points.first as u32));
+    let first = after_shown(wanted, &(points.first as u32));
     match points.second {
-        Some(second) => is_shown(behind(first, ","), &(second as u32)),
+        Some(second) => is_shown(after(first, ","), &(second as u32)),
         None => first.is_empty(),
     }
 }

@@ -1,7 +1,7 @@
 //! Which elements tags close, make and open, and what is refused.
-use crate::printed::{behind, is_value};
+use crate::printed::{after, is_value};
 use crate::rows::{cut, expect};
-use hm_settle::{Moves, Path, SettleFault};
+use hm_open_elements::{Moves, Path, SettleFault};
 use std::alloc::Global;
 use std::process::Abort;
 use std::test::Fail;
@@ -11,7 +11,7 @@ fn take(path: &mut Path, tag: &str) -> Result<Moves, SettleFault> {
     match tag.strip_prefix("/") {
         Some(name) => {
             if name == "body" || name == "html" {
-                return Err(SettleFault::Memory);
+                return Err(SettleFault::OutOfMemory);
             }
             path.end(name)
         }
@@ -36,7 +36,7 @@ fn take_all(path: &mut Path, tags: &str) -> bool {
 fn holds(path: &Path, names: &str) -> bool {
     let mut rest = names;
     for place in 2..path.len() {
-        rest = behind(behind(rest, " "), path.name(place));
+        rest = after(after(rest, " "), path.name(place));
     }
     rest.is_empty()
 }
@@ -46,7 +46,7 @@ fn is_answer(answer: Result<Moves, SettleFault>, wanted: &str) -> bool {
     match answer {
         Ok(moves) => is_value(wanted, &(moves.closes, moves.made)),
         Err(SettleFault::Rule { rule }) => rule.name() == wanted,
-        Err(SettleFault::Memory) => false,
+        Err(SettleFault::OutOfMemory) => false,
     }
 }
 

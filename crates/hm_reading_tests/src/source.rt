@@ -1,5 +1,5 @@
 //! The text of a page: its limit, its faults, and the place of each byte.
-use crate::printed::{behind, behind_value, is_value};
+use crate::printed::{after, after_value, is_value};
 use crate::rows::expect;
 use hm_base::{SourceText, TextFault};
 use std::alloc::Global;
@@ -59,7 +59,7 @@ fn is_text(text: &SourceText, wanted: &str, places: &str) -> bool {
     let mut rest = places;
     for index in 0..100u32 {
         if index as usize <= text.text().len() {
-            rest = behind_value(behind(rest, " "), &text.place_of(index));
+            rest = after_value(after(rest, " "), &text.place_of(index));
         }
     }
     text.text() == wanted && rest.is_empty()

@@ -1,7 +1,7 @@
 //! Tags, after the HTML Standard (#tag-open-state to #tag-name-state and #before-attribute-name-state to
 //! #self-closing-start-tag-state).
 
-use crate::printed::{behind, behind_attributes, is_value};
+use crate::printed::{after, after_attributes, is_value};
 use crate::rows::{cut, expect};
 use hm_refs::Table;
 use hm_scan::{begins_tag, scan_tag};
@@ -13,18 +13,18 @@ use std::test::Fail;
 const NAMES: &str = "{\"&copy\":{\"codepoints\":[169]},\"&copy;\":{\"codepoints\":[169]}}";
 
 /// What is wanted after a start tag: its name, its attributes, and ` /` where a `/` stands before the `>`.
-fn behind_start<'w>(wanted: &'w str, name: &str, attrs: &Attrs, slash: bool) -> &'w str {
-    let rest = behind_attributes(behind(wanted, name), attrs);
-    behind(rest, if slash { " /" } else { "" })
+fn after_start<'w>(wanted: &'w str, name: &str, attrs: &Attrs, slash: bool) -> &'w str {
+    let rest = after_attributes(after(wanted, name), attrs);
+    after(rest, if slash { " /" } else { "" })
 }
 
 /// What is wanted after a tag. An end tag is `/` and its name.
-fn behind_tag<'w>(wanted: &'w str, token: &Token) -> &'w str {
+fn text_after_tag<'w>(wanted: &'w str, token: &Token) -> &'w str {
     match token {
         Token::StartTag { name, attrs, slash } => {
-            behind_start(wanted, name.text.as_str(), attrs, *slash)
+            after_start(wanted, name.text.as_str(), attrs, *slash)
         }
-        Token::EndTag { name } => behind(behind(wanted, "/"), name.text.as_str()),
+        Token::EndTag { name } => after(after(wanted, "/"), name.text.as_str()),
         _ => "?",
     }
 }
@@ -32,7 +32,7 @@ fn behind_tag<'w>(wanted: &'w str, token: &Token) -> &'w str {
 /// Whether an answer is wanted: the tag and, after a space, the place after the tag, or its fault.
 fn is_answer(wanted: &str, answer: Result<(Token, u32), ScanFault>) -> bool {
     match answer {
-        Ok((token, place)) => is_value(behind(behind_tag(wanted, &token), " "), &place),
+        Ok((token, place)) => is_value(after(text_after_tag(wanted, &token), " "), &place),
         Err(fault) => is_value(wanted, &fault),
     }
 }

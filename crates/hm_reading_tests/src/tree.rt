@@ -4,23 +4,23 @@ ghost use Rattle.std.specs.Prelude.{◌≡◌, ◌+◌, ◌^◌, ◌<◌, ◌≤
 ghost use Rattle.hm_base.specs.Walks.{attributes_size, path_after, walk_size};
 ghost use Rattle.hm_tree.specs.Trees.{last_agrees};
 
-use crate::printed::{behind, behind_value};
+use crate::printed::{after, after_value};
 use crate::rows::{cut, expect};
-use hm_base::{Memory, Word};
+use hm_base::{OutOfMemory, OwnedText};
 use hm_tree::{Attrs, EventView, Lexeme, Maker, Placed, ScanFault, Spanned, Tag, Token, Tree};
 use std::alloc::{AllocError, AllocFailed, Global};
 use std::process::Abort;
 use std::test::Fail;
 
 /// No attribute where the text is empty, else the one that it tells as `name=value`.
-fn attributes(alloc: Global, text: &str) -> Result<Attrs, Memory>
+fn attributes(alloc: Global, text: &str) -> Result<Attrs, OutOfMemory>
     ensures { IfOk result (λ attrs. attributes_size attrs ≤ 200) }
 {
     let mut attrs = Attrs::new(alloc);
     if !text.is_empty() {
         let (name, value) = cut(text, "=");
         if name.len() > 100 || value.len() > 100 {
-            return Err(Memory);
+            return Err(OutOfMemory);
         }
         attrs.put(name, value)?;
     }
@@ -28,7 +28,7 @@ fn attributes(alloc: Global, text: &str) -> Result<Attrs, Memory>
 }
 
 /// Starts the element of a name, with the attribute that stands after a space, if any.
-fn start(alloc: Global, maker: &mut Maker, call: &str) -> Result<(), Memory>
+fn start(alloc: Global, maker: &mut Maker, call: &str) -> Result<(), OutOfMemory>
     requires events { length maker.old + length (path_after [] maker.old) + 2 < 2 ^ 29 }
     requires bytes { walk_size maker.old + 300 < 2 ^ 29 }
     ensures events { OnOk result (length maker.new + length (path_after [] maker.new) ≤ length maker.old + length (path_after [] maker.old) + 2) }
@@ -37,12 +37,12 @@ fn start(alloc: Global, maker: &mut Maker, call: &str) -> Result<(), Memory>
 {
     let (name, attribute) = call.split_once(' ').unwrap_or((call, ""));
     if name.len() > 100 {
-        return Err(Memory);
+        return Err(OutOfMemory);
     }
     maker.start(name, false, attributes(alloc, attribute)?)
 }
 
-fn text(maker: &mut Maker, text: &str) -> Result<(), Memory>
+fn text(maker: &mut Maker, text: &str) -> Result<(), OutOfMemory>
     requires events { length maker.old + length (path_after [] maker.old) + 2 < 2 ^ 29 }
     requires bytes { walk_size maker.old + 300 < 2 ^ 29 }
     requires plain { last_agrees maker.old false ≡ true }
@@ -51,12 +51,12 @@ fn text(maker: &mut Maker, text: &str) -> Result<(), Memory>
     ensures plain { OnOk result (last_agrees maker.new false ≡ true) }
 {
     if text.len() > 100 {
-        return Err(Memory);
+        return Err(OutOfMemory);
     }
     maker.text(text, false)
 }
 
-fn comment(maker: &mut Maker, text: &str) -> Result<(), Memory>
+fn comment(maker: &mut Maker, text: &str) -> Result<(), OutOfMemory>
     requires events { length maker.old + length (path_after [] maker.old) + 2 < 2 ^ 29 }
     requires bytes { walk_size maker.old + 300 < 2 ^ 29 }
     ensures events { OnOk result (length maker.new + length (path_after [] maker.new) ≤ length maker.old + length (path_after [] maker.old) + 2) }
@@ -64,12 +64,12 @@ fn comment(maker: &mut Maker, text: &str) -> Result<(), Memory>
     ensures plain { OnOk result (last_agrees maker.new false ≡ true) }
 {
     if text.len() > 100 {
-        return Err(Memory);
+        return Err(OutOfMemory);
     }
     maker.comment(text)
 }
 
-fn doctype(maker: &mut Maker, legacy: bool) -> Result<(), Memory>
+fn doctype(maker: &mut Maker, legacy: bool) -> Result<(), OutOfMemory>
     requires events { length maker.old + length (path_after [] maker.old) + 2 < 2 ^ 29 }
     requires bytes { walk_size maker.old + 300 < 2 ^ 29 }
     ensures events { OnOk result (length maker.new + length (path_after [] maker.new) ≤ length maker.old + length (path_after [] maker.old) + 2) }
@@ -79,19 +79,19 @@ fn doctype(maker: &mut Maker, legacy: bool) -> Result<(), Memory>
     maker.doctype(legacy)
 }
 
-fn end(maker: &mut Maker) -> Result<(), Memory>
+fn end(maker: &mut Maker) -> Result<(), OutOfMemory>
     ensures events { OnOk result (length maker.new + length (path_after [] maker.new) ≤ length maker.old + length (path_after [] maker.old) + 2) }
     ensures bytes { OnOk result (walk_size maker.new ≤ walk_size maker.old + 300) }
     ensures plain { OnOk result (last_agrees maker.new false ≡ true) }
 {
     if maker.depth() == 0 {
-        return Err(Memory);
+        return Err(OutOfMemory);
     }
     maker.end()
 }
 
 /// Makes a call: `start` with the name of an element and maybe an attribute, `text`, `comment`, `doctype` or `end`.
-fn take(alloc: Global, maker: &mut Maker, call: &str) -> Result<(), Memory>
+fn take(alloc: Global, maker: &mut Maker, call: &str) -> Result<(), OutOfMemory>
     requires events { length maker.old + length (path_after [] maker.old) + 2 < 2 ^ 29 }
     requires bytes { walk_size maker.old + 300 < 2 ^ 29 }
     requires plain { last_agrees maker.old false ≡ true }
@@ -106,12 +106,12 @@ fn take(alloc: Global, maker: &mut Maker, call: &str) -> Result<(), Memory>
         "comment" => comment(maker, rest),
         "doctype" => doctype(maker, false),
         "end" => end(maker),
-        _ => Err(Memory),
+        _ => Err(OutOfMemory),
     }
 }
 
 /// The tree of at most 50 calls, with a bar after each.
-fn made(alloc: Global, calls: &str) -> Result<Tree, Memory> {
+fn made(alloc: Global, calls: &str) -> Result<Tree, OutOfMemory> {
     let mut maker = Tree::maker(alloc);
     let mut left = calls;
     for count in 0..50u32 {
@@ -122,7 +122,7 @@ fn made(alloc: Global, calls: &str) -> Result<Tree, Memory> {
         }
     }
     if maker.depth() > 0 || !left.is_empty() {
-        return Err(Memory);
+        return Err(OutOfMemory);
     }
     Ok(maker.finish())
 }
@@ -163,7 +163,7 @@ fn has_events(tree: &Tree, wanted: &str) -> bool {
     let mut rest = wanted;
     for i in 0..tree.len() {
         let (text, is_end) = shown(tree.event(i));
-        rest = behind(behind_value(rest, &(text, is_end, tree.parent(i))), "\n");
+        rest = after(after_value(rest, &(text, is_end, tree.parent(i))), "\n");
     }
     rest.is_empty()
 }
@@ -212,9 +212,9 @@ fn first_differences(rt: HostRuntime) {
 }
 
 /// Adds an attribute, and says whether it was added. A fourth is refused as memory is.
-fn add(alloc: Global, attrs: &mut Attrs, name: &str, value: &str) -> Result<bool, Memory> {
+fn add(alloc: Global, attrs: &mut Attrs, name: &str, value: &str) -> Result<bool, OutOfMemory> {
     if attrs.len() > 2 {
-        return Err(Memory);
+        return Err(OutOfMemory);
     }
     let name = String::from_str(alloc, name)?;
     let value = String::from_str(alloc, value)?;
@@ -241,7 +241,7 @@ fn a_name_once(rt: HostRuntime) {
 
 /// A tag `<br/>` in the bytes from 3 to 8. Its name and attributes are put into `tag`.
 fn placed_tag(alloc: Global, tag: &mut Tag) -> Result<Placed, AllocError> {
-    let name = Word {
+    let name = OwnedText {
         text: String::from_str(alloc, "br")?,
     };
     let token = Token::StartTag {
@@ -288,7 +288,7 @@ fn a_tag_in_its_place(rt: HostRuntime) {
 
 #[test]
 fn want_of_memory_is_a_fault(rt: HostRuntime) {
-    assert!(rt; ScanFault::from(Memory) == ScanFault::Memory);
-    assert!(rt; ScanFault::from(AllocError) == ScanFault::Memory);
-    assert!(rt; ScanFault::from(AllocFailed { value: 1u8 }) == ScanFault::Memory);
+    assert!(rt; ScanFault::from(OutOfMemory) == ScanFault::OutOfMemory);
+    assert!(rt; ScanFault::from(AllocError) == ScanFault::OutOfMemory);
+    assert!(rt; ScanFault::from(AllocFailed { value: 1u8 }) == ScanFault::OutOfMemory);
 }

@@ -233,22 +233,22 @@ found_nothing t m q x h = by_name (is_name t (q ++ m)) refl
 pub record GoesOn (q n rest : List ℕ) : Type 0 where
   pub head : ℕ
   pub more : List ℕ
-  pub behind : List ℕ
+  pub after : List ℕ
   pub whole : q ≡ n ++ head ∷ more
-  pub left : rest ≡ head ∷ (more ++ behind)
+  pub left : rest ≡ head ∷ (more ++ after)
 
-goes_behind : (c d : ℕ) (q n rest : List ℕ) → c ≡ d → GoesOn q n rest → GoesOn (c ∷ q) (d ∷ n) rest
-goes_behind c d q n rest i g = record { head = g.head; more = g.more; behind = g.behind; whole = rw (i, g.whole) refl; left = g.left }
+goes_after : (c d : ℕ) (q n rest : List ℕ) → c ≡ d → GoesOn q n rest → GoesOn (c ∷ q) (d ∷ n) rest
+goes_after c d q n rest i g = record { head = g.head; more = g.more; after = g.after; whole = rw (i, g.whole) refl; left = g.left }
 
 pub goes_on : (q r n rest : List ℕ) → q ++ r ≡ n ++ rest → length n < length q → GoesOn q n rest
 goes_on [] r n rest e l = absurd (omega arith)
-goes_on (c ∷ q) r [] rest e l = record { head = c; more = q; behind = r; whole = refl; left = sym e }
-goes_on (c ∷ q) r (d ∷ n) rest e l = goes_behind c d q n rest (cc) (goes_on q r n rest (cc) (omega arith))
+goes_on (c ∷ q) r [] rest e l = record { head = c; more = q; after = r; whole = refl; left = sym e }
+goes_on (c ∷ q) r (d ∷ n) rest e l = goes_after c d q n rest (cc) (goes_on q r n rest (cc) (omega arith))
 
 longer_no : (t : List Entry) (q n rest : List ℕ) → found_longer t n rest ≡ None → GoesOn q n rest → is_name t q ≡ false
 longer_no t q n rest l g =
     let e = subst (λ w. found_longer t n w ≡ None) g.left l in
-    let f = found_nothing t g.more (n ++ g.head ∷ []) g.behind e in
+    let f = found_nothing t g.more (n ++ g.head ∷ []) g.after e in
     rw (g.whole, sym (append_assoc n (g.head ∷ []) g.more)) f
 
 -- the plain reading

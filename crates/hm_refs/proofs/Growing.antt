@@ -93,14 +93,14 @@ root_node : (x y : TrieNode) (n : ℕ) → n < 1 → get_or (x ∷ []) n y ≡ y
 root_node x y zero l e = sym e
 root_node x y (suc n) l e = absurd (omega arith)
 
-no_place_behind : (q : List ℕ) (c : ℕ) → is_null q ≡ false → is_some (place (q ++ c ∷ []) ((38 ∷ []) ∷ [])) ≡ true → ⊥
-no_place_behind [] c h s = cc
-no_place_behind (x ∷ []) c h s = by_test (nat_eq 38 x) s
+no_place_after : (q : List ℕ) (c : ℕ) → is_null q ≡ false → is_some (place (q ++ c ∷ []) ((38 ∷ []) ∷ [])) ≡ true → ⊥
+no_place_after [] c h s = cc
+no_place_after (x ∷ []) c h s = by_test (nat_eq 38 x) s
   where
     by_test : (b : Bool) → is_some {T = ℕ} (cond (b && false) (Some 0) None) ≡ true → ⊥
     by_test true k = cc
     by_test false k = cc
-no_place_behind (x ∷ y ∷ q) c h s = by_test (nat_eq 38 x) s
+no_place_after (x ∷ y ∷ q) c h s = by_test (nat_eq 38 x) s
   where
     by_test : (b : Bool) → is_some {T = ℕ} (cond (b && false) (Some 0) None) ≡ true → ⊥
     by_test true k = cc
@@ -119,7 +119,7 @@ root_web t x r = record {
   root = root_front t x r.depth;
   apart = apart;
   kin = λ n y l e. subst (IsKin t (x ∷ [])) (sym (root_node x y n l e)) kin;
-  closed = λ q c h s. absurd (no_place_behind q c h (rw (root_front t x r.depth) at s));
+  closed = λ q c h s. absurd (no_place_after q c h (rw (root_front t x r.depth) at s));
   led = λ n y l e. inl (subst (λ w. front_in t w ≡ 38 ∷ []) (sym (root_node x y n l e)) (root_front t x r.depth));
 }
   where

@@ -26,9 +26,9 @@ stands_later f q fs n s = record { inside = omega (arith, s.inside); is = s.is }
 stands_here : (f q : List ℕ) (fs : List (List ℕ)) (n : ℕ) → f ≡ q → 0 ≡ n → StandsAt q (f ∷ fs) n
 stands_here f q fs n i e = subst (λ m. StandsAt q (f ∷ fs) m) e (record { inside = omega arith; is = i })
 
-stands_behind : (f q : List ℕ) (fs : List (List ℕ)) (n : ℕ) (o : Option ℕ) → ((m : ℕ) → o ≡ Some m → StandsAt q fs m) → option_map suc o ≡ Some n → StandsAt q (f ∷ fs) n
-stands_behind f q fs n None more k = absurd (cc)
-stands_behind f q fs n (Some m) more k = let i : suc m ≡ n = cc in subst (λ l. StandsAt q (f ∷ fs) l) i (stands_later f q fs m (more m refl))
+stands_after : (f q : List ℕ) (fs : List (List ℕ)) (n : ℕ) (o : Option ℕ) → ((m : ℕ) → o ≡ Some m → StandsAt q fs m) → option_map suc o ≡ Some n → StandsAt q (f ∷ fs) n
+stands_after f q fs n None more k = absurd (cc)
+stands_after f q fs n (Some m) more k = let i : suc m ≡ n = cc in subst (λ l. StandsAt q (f ∷ fs) l) i (stands_later f q fs m (more m refl))
 
 pub place_stands : (q : List ℕ) (fs : List (List ℕ)) (n : ℕ) → place q fs ≡ Some n → StandsAt q fs n
 place_stands q [] n h = absurd (cc)
@@ -36,7 +36,7 @@ place_stands q (f ∷ fs) n h = by_test (bytes_eq f q) refl (λ m e. place_stand
   where
     by_test : (b : Bool) → bytes_eq f q ≡ b → ((m : ℕ) → place q fs ≡ Some m → StandsAt q fs m) → cond b (Some 0) (option_map suc (place q fs)) ≡ Some n → StandsAt q (f ∷ fs) n
     by_test true e more k = stands_here f q fs n ((bytes_eq-Decides f q).0 e) (cc)
-    by_test false e more k = stands_behind f q fs n (place q fs) more k
+    by_test false e more k = stands_after f q fs n (place q fs) more k
 
 -- what stands somewhere has a place
 pub place_some : (q : List ℕ) (fs : List (List ℕ)) (n : ℕ) → n < length fs → get_or fs n [] ≡ q → is_some (place q fs) ≡ true

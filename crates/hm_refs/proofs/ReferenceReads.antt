@@ -5,7 +5,7 @@ use Rattle.std.specs.Int.{is_in_range}
 use Rattle.std.proofs.lemmas.Bool.{and_parts, cases_lt}
 use Rattle.std.proofs.lemmas.Bool.Decides.{Decides-eqb}
 use Rattle.std.proofs.lemmas.List.{get_or-drop, get_or-take, get_or_append_left}
-use Rattle.hm_base.specs.Bytes.{all_pass, front, behind, head_is, is_null, is_letter, is_alnum, is_digit, is_digit_of}
+use Rattle.hm_base.specs.Bytes.{all_pass, front, rest_after, head_is, is_null, is_letter, is_alnum, is_digit, is_digit_of}
 use Rattle.hm_refs.specs.Laws.{IsLongest}
 use Rattle.hm_refs.specs.Names.{Entry, longest, is_good, is_tail, is_closed}
 use Rattle.hm_refs.specs.Numbers.{point_of}
@@ -87,7 +87,7 @@ semicolon_end s to more inside by = by_cases (cases_lt to (length s)) by
 
 pub number_read : (s : List ℕ) (from to base first more : ℕ) → base ≤ 16 → IsEndOf (is_digit_of base) s from to → (to ≡ from → ⊥)
     → first ≡ point_of (value_of base (slice_range s from to)) → more ≡ cond (head_is is_semicolon (drop to s)) 1 0
-    → IsReadReference (numeric from base (front (is_digit_of base) (drop from s)) (behind (is_digit_of base) (drop from s))) s (record { points = record { first = first; second = None }; len = to + more })
+    → IsReadReference (numeric from base (front (is_digit_of base) (drop from s)) (rest_after (is_digit_of base) (drop from s))) s (record { points = record { first = first; second = None }; len = to + more })
 number_read s from to base first more high e some is by =
     let low : from ≤ to = e.forward in
     let inside : to ≤ length s = e.inside in
@@ -96,7 +96,7 @@ number_read s from to base first more high e some is by =
     let count : from + length (slice_range s from to) + cond (head_is is_semicolon (drop to s)) 1 0 ≡ to + more = rw (long, ← by) (omega arith) in
     let semicolon = semicolon_end s to more inside by in
     record {
-      is = ap₂ (numeric from base) e.front e.behind ∙ read ∙ ap₂ (λ c n. Some (record { points = c ∷ []; len = n })) (sym is) count;
+      is = ap₂ (numeric from base) e.front e.after ∙ read ∙ ap₂ (λ c n. Some (record { points = c ∷ []; len = n })) (sym is) count;
       some = omega arith;
       inside = semicolon.0;
       ascii = semicolon.1 (omega arith) (digit_low base (get_or s (to - 1) 0) high (passes_at (is_digit_of base) s from to (to - 1) e (omega arith) (omega arith)));

@@ -1,7 +1,7 @@
 -- How a run goes on by one byte, and where it ends.
 use Rattle.std.proofs.Common.{◌≡◌, ℕ, ◌+◌, ◌-◌, ◌<◌, ◌≤◌, Bool, true, false, cond, List, [], ◌∷◌, ◌++◌, length, take, drop, get_or, slice_range, refl, ap, sym, ◌∙◌, arith, drop-cons, add-one, append_assoc, length-drop}
 use Rattle.std.proofs.lemmas.List.{take_more, get_or-drop}
-use Rattle.hm_base.specs.Bytes.{all_pass, front, behind}
+use Rattle.hm_base.specs.Bytes.{all_pass, front, rest_after}
 
 pub range_more : (s : List ℕ) (from at : ℕ) → from ≤ at → at < length s → slice_range s from (at + 1) ≡ slice_range s from at ++ get_or s at 0 ∷ []
 range_more s from at low high =
@@ -16,7 +16,7 @@ pub record Runs (p : ℕ → Bool) (s : List ℕ) (from at : ℕ) : Type 0 where
   pub forward : from ≤ at
   pub inside : at ≤ length s
   pub front : front p (drop from s) ≡ slice_range s from at ++ front p (drop at s)
-  pub behind : behind p (drop from s) ≡ behind p (drop at s)
+  pub after : rest_after p (drop from s) ≡ rest_after p (drop at s)
 
 pub run_more : (p : ℕ → Bool) (s : List ℕ) (from at : ℕ) → Runs p s from at → at < length s → p (get_or s at 0) ≡ true → Runs p s from (at + 1)
 run_more p s from at r h e =
@@ -26,7 +26,7 @@ run_more p s from at r h e =
       forward = omega (arith, r.forward);
       inside = omega arith;
       front = r.front ∙ ap (λ x. slice_range s from at ++ front p x) cut ∙ rw (e, longer) (sym (append_assoc (slice_range s from at) (get_or s at 0 ∷ []) (front p (drop (at + 1) s))));
-      behind = r.behind ∙ ap (behind p) cut ∙ rw e refl;
+      after = r.after ∙ ap (rest_after p) cut ∙ rw e refl;
     }
 
 -- the bytes of a prefix pass

@@ -191,10 +191,10 @@ module _ (t : List Entry) (nodes : List TrieNode) (at byte : ℕ) (node y : Trie
           ((spans node (length nodes) g.side).keeps m a, omega (arith, (spans node (length nodes) g.side).end))
       all m w c h (made e f) = (omega (arith, (spans node (length nodes) g.side).last), omega (arith, (spans node (length nodes) g.side).end))
 
-  none_behind : (m : ℕ) (w : TrieNode) (c : ℕ) → front_in t w ≡ front_in t y ++ c ∷ [] → Was t nodes y w m → ⊥
+  none_follows : (m : ℕ) (w : TrieNode) (c : ℕ) → front_in t w ≡ front_in t y ++ c ∷ [] → Was t nodes y w m → ⊥
   unfolding fs front_in
-  none_behind m w c h (made e f) = too_long (front_in t y) c (subst (λ v. front_in t v ≡ front_in t y ++ c ∷ []) f h)
-  none_behind m w c h (stood x l e f b) =
+  none_follows m w c h (made e f) = too_long (front_in t y) c (subst (λ v. front_in t v ≡ front_in t y ++ c ∷ []) f h)
+  none_follows m w c h (stood x l e f b) =
       let p = front_at_place t nodes m x l e ∙ f ∙ h in
       let s = place_some (front_in t y ++ c ∷ []) (fronts_of t nodes) m (omega (arith, length_fronts t nodes)) p in
       not_there (front_in t y) refl (g.web.closed (front_in t y) c refl s)
@@ -203,7 +203,7 @@ module _ (t : List Entry) (nodes : List TrieNode) (at byte : ℕ) (node y : Trie
   kin_last = record {
     within = omega (arith, g.start, g.childless);
     down = λ m w a e. absurd (omega (arith, a.0, a.1, g.start, g.childless));
-    all = λ m w c l e f. absurd (none_behind m w c f (was_in m w l e));
+    all = λ m w c l e f. absurd (none_follows m w c f (was_in m w l e));
   }
 
   kin_old : (n : ℕ) (x : TrieNode) → (n ≡ at → ⊥) → n < length nodes → get_or nodes n x ≡ x → IsKin t new x

@@ -1,6 +1,6 @@
 -- What a reader of character references returns.
 use Rattle.std.specs.Prelude.{◌≡◌, ℕ, ◌-◌, ◌<◌, ◌≤◌, Bool, false, List, length, drop, slice_index, slice_range, Option, Some}
-use Rattle.hm_base.specs.Bytes.{front, behind}
+use Rattle.hm_base.specs.Bytes.{front, rest_after}
 use Rattle.hm_refs.specs.References as refs
 use Rattle.hm_refs.specs.Tables.{points_list}
 use Rattle.hm_refs.specs.declared.scan.Reference.{Reference}
@@ -10,7 +10,7 @@ pub record IsEndOf (p : ℕ → Bool) (s : List ℕ) (from to : ℕ) : Type 0 wh
   pub forward : from ≤ to
   pub inside : to ≤ length s
   pub front : front p (drop from s) ≡ slice_range s from to
-  pub behind : behind p (drop from s) ≡ drop to s
+  pub after : rest_after p (drop from s) ≡ drop to s
   pub stops : to < length s → p (slice_index s to) ≡ false
 
 -- this reference at the start of the text; its last byte is ASCII

@@ -1,7 +1,7 @@
 -- Character references (HTML Standard, #character-reference-state to #numeric-character-reference-end-state).
 use Rattle.std.specs.Prelude.{ℕ, ◌+◌, Bool, not, ◌&&◌, ◌||◌, ◌==◌, List, [], ◌∷◌, length, Option, Some, None, if◌then◌else◌, codes}
 use Rattle.std.specs.Str.Parse.{digits_value}
-use Rattle.hm_base.specs.Bytes.{front, behind, strip, head_is, is_digit, is_hex, is_alnum}
+use Rattle.hm_base.specs.Bytes.{front, rest_after, strip, head_is, is_digit, is_hex, is_alnum}
 use Rattle.hm_refs.specs.Names.{Entry, Found, is_closed, longest}
 use Rattle.hm_refs.specs.Numbers.{point_of}
 
@@ -23,10 +23,10 @@ numeric before base [] rest = None
 numeric before base (d ∷ ds) rest = Some (record { points = point_of (value_of base (d ∷ ds)) ∷ []; len = before + length (d ∷ ds) + (if head_is is_semicolon rest then 1 else 0) })
 
 abbrev pub decimal_number : List ℕ → Option Reference
-decimal_number s = numeric 2 10 (front is_digit s) (behind is_digit s)
+decimal_number s = numeric 2 10 (front is_digit s) (rest_after is_digit s)
 
 abbrev pub hexadecimal : List ℕ → Option Reference
-hexadecimal s = numeric 3 16 (front is_hex s) (behind is_hex s)
+hexadecimal s = numeric 3 16 (front is_hex s) (rest_after is_hex s)
 
 -- the number after '&#'
 abbrev pub hash : List ℕ → Option Reference

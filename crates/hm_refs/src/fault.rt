@@ -2,7 +2,7 @@
 ghost use Rattle.std.specs.Prelude.{◌≡◌};
 ghost use Rattle.hm_refs.specs.Faults.{fault_name};
 
-use hm_base::{Memory, Word};
+use hm_base::{OutOfMemory, OwnedText};
 use std::alloc::{AllocError, AllocFailed};
 use thiserror::Error;
 
@@ -21,11 +21,11 @@ pub enum TableFault {
     /// The key isn't `&`, an ASCII letter, at least one more letter or digit, and at most one `;` at the end, or has
     /// more than 64 characters.
     #[error("BadName {}", .key.text)]
-    BadName { key: Word },
+    BadName { key: OwnedText },
     /// The key's value isn't an object whose `codepoints` is an array of one or two scalar values other than 0, each a
     /// whole number without point or exponent.
     #[error("BadPoints {}", .key.text)]
-    BadPoints { key: Word },
+    BadPoints { key: OwnedText },
     /// More than 4,096 names.
     #[error("TooMany")]
     TooMany,
@@ -34,10 +34,10 @@ pub enum TableFault {
     TooManyFor { point: u32 },
     /// A name without `;` whose form with `;` isn't there with the same code points.
     #[error("Lone {}", .key.text)]
-    Lone { key: Word },
+    Lone { key: OwnedText },
     /// Memory was refused.
     #[error("Memory")]
-    Memory,
+    OutOfMemory,
 }
 
 impl TableFault {
@@ -54,19 +54,19 @@ impl TableFault {
             TableFault::TooMany => "TooMany",
             TableFault::TooManyFor { point: _ } => "TooManyFor",
             TableFault::Lone { key: _ } => "Lone",
-            TableFault::Memory => "Memory",
+            TableFault::OutOfMemory => "Memory",
         }
     }
 }
 
-impl From<Memory> for TableFault {
+impl From<OutOfMemory> for TableFault {
     ghost use Rattle.std.specs.Prelude.{◌≡◌};
     ghost use Rattle.hm_refs.specs.declared.fault.TableFault.TheVariants as faults;
 
-    ghost from_gives = { λ _ fault. fault ≡ faults.Memory };
+    ghost from_gives = { λ _ fault. fault ≡ faults.OutOfMemory };
 
-    fn from(_refused: Memory) -> TableFault {
-        TableFault::Memory
+    fn from(_refused: OutOfMemory) -> TableFault {
+        TableFault::OutOfMemory
     }
 }
 
@@ -74,10 +74,10 @@ impl From<AllocError> for TableFault {
     ghost use Rattle.std.specs.Prelude.{◌≡◌};
     ghost use Rattle.hm_refs.specs.declared.fault.TableFault.TheVariants as faults;
 
-    ghost from_gives = { λ _ fault. fault ≡ faults.Memory };
+    ghost from_gives = { λ _ fault. fault ≡ faults.OutOfMemory };
 
     fn from(_refused: AllocError) -> TableFault {
-        TableFault::Memory
+        TableFault::OutOfMemory
     }
 }
 
@@ -85,9 +85,9 @@ impl<T: Drop> From<AllocFailed<T>> for TableFault {
     ghost use Rattle.std.specs.Prelude.{◌≡◌};
     ghost use Rattle.hm_refs.specs.declared.fault.TableFault.TheVariants as faults;
 
-    ghost from_gives = { λ _ fault. fault ≡ faults.Memory };
+    ghost from_gives = { λ _ fault. fault ≡ faults.OutOfMemory };
 
     fn from(_refused: AllocFailed<T>) -> TableFault {
-        TableFault::Memory
+        TableFault::OutOfMemory
     }
 }

@@ -9,7 +9,7 @@ ghost use Rattle.hm_refs.specs.Firsts.{IsIndex, are_many, is_open_at};
 use crate::ids::NameId;
 use crate::limits::{ALIKE_LIMIT, OPEN_LIMIT};
 use crate::nodes::ReferenceName;
-use hm_base::Memory;
+use hm_base::OutOfMemory;
 use std::alloc::Global;
 use std::collections::BTreeMap;
 
@@ -17,7 +17,7 @@ use std::collections::BTreeMap;
 pub(crate) fn firsts_of(
     alloc: Global,
     names: &[ReferenceName],
-) -> Result<BTreeMap<char, Vec<NameId>>, Memory>
+) -> Result<BTreeMap<char, Vec<NameId>>, OutOfMemory>
     requires { length names.now ≤ NAMES_LIMIT }
     ensures { IfOk result (IsIndex (entries_of names.now)) }
 {

@@ -6,7 +6,7 @@ ghost use Rattle.hm_refs.specs.Nodes.{AreNames, AreWithin, IsFound, IsPut, IsSpr
 use crate::ids::{NameId, Node};
 use crate::limits::LENGTH_LIMIT;
 use crate::text::NameText;
-use hm_base::{Memory, Points};
+use hm_base::{OutOfMemory, Points};
 use std::alloc::Global;
 
 /// A name with the code points that it stands for.
@@ -68,7 +68,7 @@ fn step(
     byte: u8,
     name: u32,
     depth: u32,
-) -> Result<Node, Memory>
+) -> Result<Node, OutOfMemory>
     requires inside { at < length nodes.old.items }
     requires few { length nodes.old.items < 4294967295 }
     requires within { AreWithin nodes.old.items }
@@ -90,7 +90,7 @@ fn step(
     Ok(Node::new(child))
 }
 
-pub(crate) fn behind_first(text: &[u8]) -> &[u8]
+pub(crate) fn after_first_byte(text: &[u8]) -> &[u8]
     requires { 0 < length text.now }
     ensures { result.now ≡ drop 1 text.now }
 {
@@ -105,13 +105,13 @@ fn grow_deeper(
     depth: u32,
     nodes: &mut Vec<TrieNode>,
     places: &mut [Node],
-) -> Result<(), Memory>
+) -> Result<(), OutOfMemory>
     requires low { depth < LENGTH_LIMIT }
     requires spread { IsSpread (entries_of names.now) depth 0 nodes.old.items places.old }
     ensures { OnOk result (IsSpread (entries_of names.now) (depth + 1) 0 nodes.new.items places.new) }
 {
     for number in 0..names.len() {
-        let tail = behind_first(names[number].text.as_str().as_bytes());
+        let tail = after_first_byte(names[number].text.as_str().as_bytes());
         if (depth as usize) < tail.len() {
             let byte = tail[depth as usize];
             places[number] = step(
@@ -141,7 +141,7 @@ pub(crate) fn grow(
     alloc: Global,
     names: &[ReferenceName],
     nodes: &mut Vec<TrieNode>,
-) -> Result<Vec<Node>, Memory>
+) -> Result<Vec<Node>, OutOfMemory>
     requires names { AreNames (entries_of names.now) }
     requires empty { nodes.old.items ≡ [] }
     ensures { IfOk result

@@ -18,7 +18,7 @@ use crate::nodes::ReferenceName;
 use crate::ordered::ordered_names;
 use crate::table::{Table, word_of};
 use crate::text::NameText;
-use hm_base::{Memory, Points, TABLE_LIMIT};
+use hm_base::{OutOfMemory, Points, TABLE_LIMIT};
 use serde_json::{Map, Value};
 use std::alloc::Global;
 
@@ -28,7 +28,7 @@ impl Table {
     pub fn read(alloc: Global, bytes: &[u8]) -> Result<Table, TableFault>
         ensures ok { IfOk result (λ table. names bytes.now ≡ Ok table.entries) }
         ensures fault { IfErr result
-            (λ fault. fault ≢ TableFault.Memory → names bytes.now ≡ Err fault) }
+            (λ fault. fault ≢ TableFault.OutOfMemory → names bytes.now ≡ Err fault) }
     {
         if bytes.len() > TABLE_LIMIT as usize {
             return Err(TableFault::TooLong);
@@ -50,7 +50,7 @@ fn of_members(alloc: Global, members: &Map<String, Value>) -> Result<Table, Tabl
     ensures ok { IfOk result
         (λ table. names_of_members (members_view members.now.entries) ≡ Ok table.entries) }
     ensures fault { IfErr result
-        (λ fault. fault ≢ TableFault.Memory
+        (λ fault. fault ≢ TableFault.OutOfMemory
         → names_of_members (members_view members.now.entries) ≡ Err fault) }
 {
     check_names(alloc, members)?;
@@ -61,13 +61,13 @@ fn of_members(alloc: Global, members: &Map<String, Value>) -> Result<Table, Tabl
 fn parse(alloc: Global, bytes: &[u8]) -> Result<Value, TableFault>
     ensures ok { IfOk result (λ value. json bytes.now ≡ Some (view value)) }
     ensures fault { IfErr result
-        (λ fault. fault ≢ TableFault.Memory
+        (λ fault. fault ≢ TableFault.OutOfMemory
         → (fault ≡ TableFault.NotJson) × (json bytes.now ≡ None)) }
 {
     match Value::from_slice(alloc, bytes) {
         Ok(value) => Ok(value),
         Err(error) => if error.is_memory() {
-            Err(TableFault::Memory)
+            Err(TableFault::OutOfMemory)
         } else {
             Err(TableFault::NotJson)
         },
@@ -77,7 +77,7 @@ fn parse(alloc: Global, bytes: &[u8]) -> Result<Value, TableFault>
 fn check_names(alloc: Global, members: &Map<String, Value>) -> Result<(), TableFault>
     ensures ok { OnOk result (first_bad_name (members_view members.now.entries) ≡ None) }
     ensures fault { IfErr result
-        (λ fault. fault ≢ TableFault.Memory
+        (λ fault. fault ≢ TableFault.OutOfMemory
         → option_map TableFault.BadName (first_bad_name (members_view members.now.entries))
         ≡ Some fault) }
 {
@@ -97,7 +97,7 @@ fn gather(alloc: Global, members: &Map<String, Value>) -> Result<Vec<ReferenceNa
     ensures names { IfOk result
         (λ names. entries_of names.items ≡ entries_in (members_view members.now.entries)) }
     ensures fault { IfErr result
-        (λ fault. fault ≢ TableFault.Memory
+        (λ fault. fault ≢ TableFault.OutOfMemory
         → option_map TableFault.BadPoints (first_bad_points (members_view members.now.entries))
         ≡ Some fault) }
 {
@@ -118,7 +118,7 @@ pub(crate) fn add_name(
     names: &mut Vec<ReferenceName>,
     name: &str,
     points: Points,
-) -> Result<(), Memory>
+) -> Result<(), OutOfMemory>
     ensures { OnOk result
         (entries_of names.new.items
         ≡ and_entry (entries_of names.old.items) name.now (points_list points)) }

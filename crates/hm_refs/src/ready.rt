@@ -6,7 +6,7 @@ ghost use Rattle.hm_refs.specs.Ready.{IsReady, are_cut, entries_from, nodes_from
 use crate::ids::{NameId, Node};
 use crate::nodes::{ReferenceName, TrieNode};
 use crate::text::NameText;
-use hm_base::{Memory, Points};
+use hm_base::{OutOfMemory, Points};
 use std::alloc::Global;
 
 /// Names with their code points, in byte order. The lists have an item for each name.
@@ -55,7 +55,7 @@ fn second(point: char) -> Option<char>
 }
 
 /// The names with their code points.
-pub(crate) fn names_of(alloc: Global, ready: ReadyNames) -> Result<Vec<ReferenceName>, Memory>
+pub(crate) fn names_of(alloc: Global, ready: ReadyNames) -> Result<Vec<ReferenceName>, OutOfMemory>
     requires cut { are_cut ready.text.now ready.lengths.now ≡ true }
     requires firsts { length ready.lengths.now ≤ length ready.firsts.now }
     requires seconds { length ready.lengths.now ≤ length ready.seconds.now }
@@ -66,7 +66,7 @@ pub(crate) fn names_of(alloc: Global, ready: ReadyNames) -> Result<Vec<Reference
     let mut names = Vec::with_capacity(alloc, ready.lengths.len())?;
     let mut rest = ready.text;
     for number in 0..ready.lengths.len() {
-        let (text, behind) = rest.split_at(ready.lengths[number] as usize);
+        let (text, after) = rest.split_at(ready.lengths[number] as usize);
         names.push(ReferenceName {
             text: NameText::ready(text),
             points: Points {
@@ -74,13 +74,13 @@ pub(crate) fn names_of(alloc: Global, ready: ReadyNames) -> Result<Vec<Reference
                 second: second(ready.seconds[number]),
             },
         })?;
-        rest = behind;
+        rest = after;
     }
     Ok(names)
 }
 
 /// The nodes, of which none says yet which name ends there.
-pub(crate) fn nodes_of(alloc: Global, ready: ReadyNodes) -> Result<Vec<TrieNode>, Memory>
+pub(crate) fn nodes_of(alloc: Global, ready: ReadyNodes) -> Result<Vec<TrieNode>, OutOfMemory>
     requires few { length ready.names.now ≤ 65536 }
     requires depths { length ready.names.now ≤ length ready.depths.now }
     requires bytes { length ready.names.now ≤ length ready.bytes.now }
@@ -107,7 +107,7 @@ pub(crate) fn nodes_of(alloc: Global, ready: ReadyNodes) -> Result<Vec<TrieNode>
 }
 
 /// Names by their numbers.
-pub(crate) fn ids_of(alloc: Global, numbers: &[u16]) -> Result<Vec<NameId>, Memory>
+pub(crate) fn ids_of(alloc: Global, numbers: &[u16]) -> Result<Vec<NameId>, OutOfMemory>
     ensures { IfOk result (λ ids. ids.items ≡ numbers.now) }
 {
     let mut ids = Vec::with_capacity(alloc, numbers.len())?;
@@ -118,7 +118,7 @@ pub(crate) fn ids_of(alloc: Global, numbers: &[u16]) -> Result<Vec<NameId>, Memo
 }
 
 /// The node of each name.
-pub(crate) fn places_of(alloc: Global, numbers: &[u16]) -> Result<Vec<Node>, Memory>
+pub(crate) fn places_of(alloc: Global, numbers: &[u16]) -> Result<Vec<Node>, OutOfMemory>
     ensures { IfOk result (λ places. places.items ≡ numbers.now) }
 {
     let mut places = Vec::with_capacity(alloc, numbers.len())?;

@@ -1,7 +1,7 @@
 //! Character references.
 ghost use Rattle.std.specs.Prelude.{◌≡◌, ◌<◌, ◌≤◌, ◌&&◌, ◌∷◌, length, drop, true, not, None, MatchOption, slice_index, ◌+◌, if◌then◌else◌};
 ghost use Rattle.std.specs.Char.{digit_value};
-ghost use Rattle.hm_base.specs.Bytes.{all_pass, behind, front, head_is, is_digit_of};
+ghost use Rattle.hm_base.specs.Bytes.{all_pass, rest_after, front, head_is, is_digit_of};
 ghost use Rattle.hm_refs.specs.Names as names;
 ghost use Rattle.hm_refs.specs.Names.{longest};
 ghost use Rattle.hm_refs.specs.Numbers.{point_of};
@@ -79,7 +79,7 @@ fn numeric_reference(text: &[u8], from: usize, base: u32) -> Option<Reference>
     requires low { 2 ≤ base }
     requires high { base ≤ 16 }
     ensures { let rest = drop from text.now in
-        let read = refs.numeric from base (front (is_digit_of base) rest) (behind (is_digit_of base) rest) in
+        let read = refs.numeric from base (front (is_digit_of base) rest) (rest_after (is_digit_of base) rest) in
         MatchOption result (read ≡ None) (IsReadReference read text.now) }
 {
     let to = digits_end(text, from, base);

@@ -17,7 +17,7 @@ use crate::nodes::ReferenceName;
 use crate::plain::plain_flags;
 use crate::ready::{ReadyIndex, ReadyNames, ReadyNodes, ids_of, names_of};
 use crate::trie::Trie;
-use hm_base::{Memory, Points, Word};
+use hm_base::{OutOfMemory, OwnedText, Points};
 use std::alloc::{AllocError, Global};
 use std::collections::BTreeMap;
 use std::marker::Model;
@@ -49,7 +49,7 @@ impl Model for Table {
 
 impl Table {
     /// A table without names.
-    pub fn empty(alloc: Global) -> Result<Table, Memory>
+    pub fn empty(alloc: Global) -> Result<Table, OutOfMemory>
         ensures { IfOk result (λ table. table.entries ≡ []) }
     {
         let trie = Trie::new(alloc, Vec::new(alloc))?;
@@ -65,7 +65,7 @@ impl Table {
         requires { IsGathered (entries_of names.items) }
         ensures ok { IfOk result (λ table. checked (entries_of names.items) ≡ Ok table.entries) }
         ensures fault { IfErr result
-            (λ fault. fault ≢ TableFault.Memory → checked (entries_of names.items) ≡ Err fault) }
+            (λ fault. fault ≢ TableFault.OutOfMemory → checked (entries_of names.items) ≡ Err fault) }
     {
         if names.len() > NAMES_LIMIT {
             return Err(TableFault::TooMany);
@@ -95,7 +95,7 @@ impl Table {
         names: ReadyNames,
         nodes: ReadyNodes,
         index: ReadyIndex,
-    ) -> Result<Table, Memory>
+    ) -> Result<Table, OutOfMemory>
         requires cut { are_cut names.text.now names.lengths.now ≡ true }
         requires firsts { length names.lengths.now ≤ length names.firsts.now }
         requires seconds { length names.lengths.now ≤ length names.seconds.now }
@@ -230,10 +230,10 @@ pub fn every_table(table: &Table)
 }
 
 /// A copy of a text.
-pub(crate) fn word_of(alloc: Global, text: &str) -> Result<Word, AllocError>
+pub(crate) fn word_of(alloc: Global, text: &str) -> Result<OwnedText, AllocError>
     ensures { IfOk result (λ word. word ≡ text.now) }
 {
-    Ok(Word {
+    Ok(OwnedText {
         text: String::from_str(alloc, text)?,
     })
 }

@@ -8,9 +8,9 @@ ghost use Rattle.hm_refs.specs.Ready.{nodes_from};
 
 use crate::firsts::is_closed;
 use crate::ids::{NameId, Node};
-use crate::nodes::{ReferenceName, TrieNode, behind_first, find_child, grow, mark_ends};
+use crate::nodes::{ReferenceName, TrieNode, after_first_byte, find_child, grow, mark_ends};
 use crate::ready::{ReadyNodes, nodes_of, places_of};
-use hm_base::{Memory, Points};
+use hm_base::{OutOfMemory, Points};
 use std::alloc::Global;
 use std::marker::Model;
 
@@ -35,7 +35,7 @@ impl Model for Trie {
 }
 
 impl Trie {
-    pub(crate) fn new(alloc: Global, names: Vec<ReferenceName>) -> Result<Trie, Memory>
+    pub(crate) fn new(alloc: Global, names: Vec<ReferenceName>) -> Result<Trie, OutOfMemory>
         requires { AreNames (entries_of names.items) }
         ensures { IfOk result (λ trie. trie.entries ≡ entries_of names.items) }
     {
@@ -53,7 +53,7 @@ impl Trie {
         alloc: Global,
         names: Vec<ReferenceName>,
         ready: ReadyNodes,
-    ) -> Result<Trie, Memory>
+    ) -> Result<Trie, OutOfMemory>
         requires few { length ready.names.now ≤ 65536 }
         requires depths { length ready.names.now ≤ length ready.depths.now }
         requires bytes { length ready.names.now ≤ length ready.bytes.now }
@@ -145,7 +145,7 @@ impl Trie {
             return None;
         }
         let mut best = None;
-        for byte in behind_first(text) {
+        for byte in after_first_byte(text) {
             let Some(child) = self.child(node, *byte) else {
                 return best;
             };

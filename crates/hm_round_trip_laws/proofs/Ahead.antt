@@ -7,18 +7,18 @@ use Rattle.hm_refs.specs.Names.{Entry}
 use Rattle.hm_refs.specs.Tables.{IsTable}
 use Rattle.hm_tree.specs.Tokens.{Seen, taken}
 use Rattle.hm_tree.specs.Tokens as tokens
-use Rattle.hm_token_laws.specs.First.{Mode, ordinary, behind_bytes, first}
+use Rattle.hm_token_laws.specs.First.{Mode, ordinary, after_bytes, first}
 use Rattle.hm_token_laws.specs.Laws.{SoundNames, IsMode}
 use Rattle.hm_token_laws.specs.Readings.{ReadsAs}
 use Rattle.hm_token_laws.specs.Decided.{TextPiece, literal, referred, written_so, meant, ArePieces, IsReadAs, ends_text, in_mode, texts_of, are_texts, is_text}
 use Rattle.hm_token_laws.specs.Written.{IsNextMarkup}
 use Rattle.hm_token_laws.proofs.TextReads.{texts_are_read, markup_ends_texts}
-use Rattle.hm_construction_laws.specs.Steps.{Construction, Stepped, went, stops, behind_events, then_step, at_front, step_byte, step_bytes, step}
+use Rattle.hm_construction_laws.specs.Steps.{Construction, Stepped, went, stops, stepped_after_events, then_step, at_front, step_byte, step_bytes, step}
 use Rattle.hm_construction_laws.specs.Steps as steps
 use Rattle.hm_construction_laws.specs.Trees.{Outcome, built, refused_by, after_events, mode_of, stepped, over, tree_from}
 use Rattle.hm_construction_laws.proofs.Standing.{pushes_append}
 use Rattle.hm_round_trip_laws.proofs.Reading.{after_none, after_after, Builds, token_steps, anywhere}
-use Rattle.hm_round_trip_laws.proofs.Runs.{Run, ran, halted, behind_run, then_run, run_bytes, run_append, Reached, Reads, texts_reach, token_bytes, texts_split}
+use Rattle.hm_round_trip_laws.proofs.Runs.{Run, ran, halted, after_run, then_run, run_bytes, run_append, Reached, Reads, texts_reach, token_bytes, texts_split}
 
 -- a table of names as its reader gives it
 pub record Sound (t : List Entry) : Type 0 where
@@ -56,40 +56,40 @@ any_front t b finish h = ([], no_text t b (rw h refl))
 
 -- at x the state st makes es, and then does what next does
 abbrev pub Agree : Construction → List Event → Construction → Ahead → Type 0
-Agree st es next (tag k) = step st k ≡ behind_events es (step next k)
-Agree st es next (point c) = step_byte c st ≡ behind_events es (step_byte c next)
+Agree st es next (tag k) = step st k ≡ stepped_after_events es (step next k)
+Agree st es next (point c) = step_byte c st ≡ stepped_after_events es (step_byte c next)
 Agree st es next finish = (place : ℕ → ℕ) (at : ℕ) → over place at st ≡ after_events es (over place at next)
 
 -- ---- A hidden tag
 
-pub events_twice : (es fs : List Event) (o : Stepped) → behind_events (es ++ fs) o ≡ behind_events es (behind_events fs o)
+pub events_twice : (es fs : List Event) (o : Stepped) → stepped_after_events (es ++ fs) o ≡ stepped_after_events es (stepped_after_events fs o)
 events_twice es fs (went gs st) = ap (λ x. went x st) (append_assoc es fs gs)
 events_twice es fs (stops rule n) = refl
 
-then_behind : (es : List Event) (o : Stepped) (f : Construction → Stepped) → then_step (behind_events es o) f ≡ behind_events es (then_step o f)
-then_behind es (went fs st) f = events_twice es fs (f st)
-then_behind es (stops rule n) f = refl
+then_after : (es : List Event) (o : Stepped) (f : Construction → Stepped) → then_step (stepped_after_events es o) f ≡ stepped_after_events es (then_step o f)
+then_after es (went fs st) f = events_twice es fs (f st)
+then_after es (stops rule n) f = refl
 
-front_behind : (es : List Event) (o : Stepped) → at_front (behind_events es o) ≡ behind_events es (at_front o)
-front_behind es (went fs st) = refl
-front_behind es (stops rule n) = refl
+front_after : (es : List Event) (o : Stepped) → at_front (stepped_after_events es o) ≡ stepped_after_events es (at_front o)
+front_after es (went fs st) = refl
+front_after es (stops rule n) = refl
 
-stepped_behind : (place : ℕ → ℕ) (at : ℕ) (es : List Event) (o : Stepped) (more : Construction → Outcome) → stepped place at (behind_events es o) more ≡ after_events es (stepped place at o more)
-stepped_behind place at es (went fs st) more = after_after es fs (more st)
-stepped_behind place at es (stops rule n) more = refl
+stepped_after : (place : ℕ → ℕ) (at : ℕ) (es : List Event) (o : Stepped) (more : Construction → Outcome) → stepped place at (stepped_after_events es o) more ≡ after_events es (stepped place at o more)
+stepped_after place at es (went fs st) more = after_after es fs (more st)
+stepped_after place at es (stops rule n) more = refl
 
-bytes_agree : (st next : Construction) (es : List Event) (c : ℕ) (s : List ℕ) → step_byte c st ≡ behind_events es (step_byte c next) → step_bytes (c ∷ s) st ≡ behind_events es (step_bytes (c ∷ s) next)
+bytes_agree : (st next : Construction) (es : List Event) (c : ℕ) (s : List ℕ) → step_byte c st ≡ stepped_after_events es (step_byte c next) → step_bytes (c ∷ s) st ≡ stepped_after_events es (step_bytes (c ∷ s) next)
 bytes_agree st next es c s agree =
-    let f : Construction → Stepped = λ here. steps.behind_bytes 1 (step_bytes s here) in
-    ap (λ o. then_step o f) agree ∙ then_behind es (step_byte c next) f
+    let f : Construction → Stepped = λ here. steps.after_bytes 1 (step_bytes s here) in
+    ap (λ o. then_step o f) agree ∙ then_after es (step_byte c next) f
 
-token_agrees : (st next : Construction) (es : List Event) (c : ℕ) (s : List ℕ) (k : Seen) → is_text k ≡ true → token_bytes k ≡ c ∷ s → step_byte c st ≡ behind_events es (step_byte c next) → step st k ≡ behind_events es (step next k)
+token_agrees : (st next : Construction) (es : List Event) (c : ℕ) (s : List ℕ) (k : Seen) → is_text k ≡ true → token_bytes k ≡ c ∷ s → step_byte c st ≡ stepped_after_events es (step_byte c next) → step st k ≡ stepped_after_events es (step next k)
 unfolding step
 token_agrees st next es c s (tokens.doctype legacy) is e agree = cc
 token_agrees st next es c s (tokens.start_tag name attributes slash) is e agree = cc
 token_agrees st next es c s (tokens.end_tag name) is e agree = cc
 token_agrees st next es c s (tokens.slice x) is e agree = rw e (bytes_agree st next es c s agree)
-token_agrees st next es c s (tokens.points ps) is e agree = rw e (ap at_front (bytes_agree st next es c s agree) ∙ front_behind es (step_bytes (c ∷ s) next))
+token_agrees st next es c s (tokens.points ps) is e agree = rw e (ap at_front (bytes_agree st next es c s agree) ∙ front_after es (step_bytes (c ∷ s) next))
 token_agrees st next es c s (tokens.comment x) is e agree = cc
 
 empty_step : (st : Construction) (k : Seen) → is_text k ≡ true → token_bytes k ≡ [] → step st k ≡ went [] st
@@ -102,13 +102,13 @@ empty_step st (tokens.points ps) is e = rw e refl
 empty_step st (tokens.comment x) is e = cc
 
 token_hidden : (t : List Entry) (place : ℕ → ℕ) (at : ℕ) (s : List ℕ) (n : ℕ) (k : Seen) (rest : List ℕ) (st next : Construction) (es : List Event) → SoundNames t → mode_of st.path ≡ ordinary → mode_of next.path ≡ ordinary
-    → first t ordinary s ≡ behind_bytes n (taken k rest) → step st k ≡ behind_events es (step next k) → tree_from t place 0 at st s ≡ after_events es (tree_from t place 0 at next s)
+    → first t ordinary s ≡ after_bytes n (taken k rest) → step st k ≡ stepped_after_events es (step next k) → tree_from t place 0 at st s ≡ after_events es (tree_from t place 0 at next s)
 token_hidden t place at s n k rest st next es names m m' h agree =
     let one = token_steps t place at ordinary s n k rest names tt h in
     let more : Construction → Outcome = λ here. tree_from t place 0 one.0 here rest in
-    one.1 st m ∙ ap (λ o. stepped place (at + n) o more) agree ∙ stepped_behind place (at + n) es (step next k) more ∙ ap (after_events es) (sym (one.1 next m'))
+    one.1 st m ∙ ap (λ o. stepped place (at + n) o more) agree ∙ stepped_after place (at + n) es (step next k) more ∙ ap (after_events es) (sym (one.1 next m'))
 
-texts_hidden : (t : List Entry) (place : ℕ → ℕ) (st next : Construction) (es : List Event) (c : ℕ) (x : List ℕ) → SoundNames t → mode_of st.path ≡ ordinary → mode_of next.path ≡ ordinary → step_byte c st ≡ behind_events es (step_byte c next)
+texts_hidden : (t : List Entry) (place : ℕ → ℕ) (st next : Construction) (es : List Event) (c : ℕ) (x : List ℕ) → SoundNames t → mode_of st.path ≡ ordinary → mode_of next.path ≡ ordinary → step_byte c st ≡ stepped_after_events es (step_byte c next)
     → (ks : List Seen) (at : ℕ) (s rest : List ℕ) → are_texts ks ≡ true → texts_of ks ≡ c ∷ x → ReadsAs t (map (in_mode ordinary) ks) s rest → tree_from t place 0 at st s ≡ after_events es (tree_from t place 0 at next s)
 texts_hidden t place st next es c x names m m' agree [] at s rest texts e h = cc
 texts_hidden t place st next es c x names m m' agree (k ∷ ks) at s rest texts e (n, left, h, more) =
@@ -167,7 +167,7 @@ pieces_append t (literal c ∷ ps) qs after a b = (rw (follow_on ps qs after) a.
 pieces_append t (referred s cs ∷ ps) qs after a b = (rw (follow_on ps qs after) a.0, pieces_append t ps qs after a.1 b)
 
 -- what a run after another one makes, where the second alone builds w
-joined_build : (t : List Entry) (place : ℕ → ℕ) (later later' : ℕ) (rest : List ℕ) (es : List Event) (whole part : Outcome) (w : List Event) (r : Run) → Reached whole (λ q. tree_from t place 0 later q rest) (behind_run es r) → Reached part (λ q. tree_from t place 0 later' q rest) r → part ≡ built w → whole ≡ built (pushes es w)
+joined_build : (t : List Entry) (place : ℕ → ℕ) (later later' : ℕ) (rest : List ℕ) (es : List Event) (whole part : Outcome) (w : List Event) (r : Run) → Reached whole (λ q. tree_from t place 0 later q rest) (after_run es r) → Reached part (λ q. tree_from t place 0 later' q rest) r → part ≡ built w → whole ≡ built (pushes es w)
 joined_build t place later later' rest es whole part w (ran fs next) h k e = by (tree_from t place 0 later' next rest) refl (sym k ∙ e)
   where
     by : (o : Outcome) → tree_from t place 0 later' next rest ≡ o → after_events fs o ≡ built w → whole ≡ built (pushes es w)
@@ -187,7 +187,7 @@ text_before_front t sound P reads ps b rest text st next es w p p' whole allowed
     let on = texts_reach t place P ordinary sound.names tt reads r.tokens at (written_so all ++ f.rest) f.rest r.texts r.reads in
     let off = texts_reach t place P ordinary sound.names tt reads q.tokens at (written_so f.pieces ++ f.rest) f.rest q.texts q.reads in
     let cut : b ≡ written_so all ++ f.rest = whole ∙ ap (λ s. written_so ps ++ s) f.whole ∙ sym (follow_on ps f.pieces f.rest) in
-    let run : run_bytes (texts_of r.tokens) st ≡ behind_run es (run_bytes (meant f.pieces) next) =
+    let run : run_bytes (texts_of r.tokens) st ≡ after_run es (run_bytes (meant f.pieces) next) =
     ap (λ s. run_bytes s st) (r.joined ∙ meant_append ps f.pieces) ∙ run_append (meant ps) (meant f.pieces) st ∙ ap (λ z. then_run z (run_bytes (meant f.pieces))) runs in
     let here = subst (Reached (tree_from t place 0 at st (written_so all ++ f.rest)) (λ z. tree_from t place 0 on.0 z f.rest)) run (on.1 st p) in
     let there = subst (Reached (tree_from t place 0 at next (written_so f.pieces ++ f.rest)) (λ z. tree_from t place 0 off.0 z f.rest)) (ap (λ s. run_bytes s next) q.joined) (off.1 next p') in

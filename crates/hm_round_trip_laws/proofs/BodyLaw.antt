@@ -5,10 +5,10 @@ use Rattle.hm_base.specs.Forms.{is_tag_name}
 use Rattle.hm_base.specs.Walks.{Attribute, Event, doctype, start, text, comment, end, Element, begins_end}
 use Rattle.hm_elements.specs.Names.{html, body, p, script as script_name}
 use Rattle.hm_elements.specs.Tables.{is_void, is_raw, is_rcdata, holds_text}
-use Rattle.hm_elements.specs.Nesting.{yields}
+use Rattle.hm_elements.specs.Nesting.{is_closed_by_start}
 use Rattle.hm_elements.specs.Paths.{html_element, current, is_in_svg, is_in_text, head_yields}
 use Rattle.hm_elements.specs.Settled.{is_html}
-use Rattle.hm_elements.specs.Omission.{goes_up}
+use Rattle.hm_elements.specs.Omission.{end_tag_optional_in}
 use Rattle.hm_elements.specs.Places.{CommentAllowed, StartAllowed, HtmlAllowed, ElementAllowed, SettledBody}
 use Rattle.hm_elements.proofs.TableTools.{same_bytes}
 use Rattle.hm_tree.specs.Tokens as tokens
@@ -18,8 +18,8 @@ use Rattle.hm_token_laws.specs.Written.{IsNext, IsTextOf}
 use Rattle.hm_markup_spec.specs.Tags.{WritesEnd}
 use Rattle.hm_spelling_spec.specs.Tags.{Spelling, SpellsStart}
 use Rattle.hm_spelling_spec.specs.Omission.{end_goes}
-use Rattle.hm_spelling_spec.specs.Spellings.{Before, other, opening, end_omitted, StartForm, EndForm, StartSp, EndSp, is_self_closing, has_no_end_tag, may_be_slashed, behind_start, behind_end, left_out_before, SpellsFrom}
-use Rattle.hm_settle.specs.Moves.{element}
+use Rattle.hm_spelling_spec.specs.Spellings.{Before, other, opening, end_omitted, StartForm, EndForm, StartSp, EndSp, is_self_closing, has_no_end_tag, may_be_slashed, after_start, after_end, left_out_before, SpellsFrom}
+use Rattle.hm_open_elements.specs.Moves.{element}
 use Rattle.hm_construction_laws.specs.Steps.{in_body, Construction, went, under_body, closes_at_once, entered}
 use Rattle.hm_construction_laws.specs.Steps as steps
 use Rattle.hm_construction_laws.specs.Trees.{mode_of, mode_of_name}
@@ -28,11 +28,11 @@ use Rattle.hm_round_trip_laws.proofs.Pieces.{PiecesAreNext}
 use Rattle.hm_round_trip_laws.proofs.Reading.{Builds, written}
 use Rattle.hm_round_trip_laws.proofs.Ahead.{Sound, tag, unseen}
 use Rattle.hm_round_trip_laws.proofs.Frame.{here, start_omitted, end_omitted_is}
-use Rattle.hm_round_trip_laws.proofs.Behind.{last_law}
+use Rattle.hm_round_trip_laws.proofs.LastEvents.{last_law}
 use Rattle.hm_round_trip_laws.proofs.BodySteps.{Inside, at_body, inner, Stands, stands_in, no_root, element_no_root, start_steps, stays_open, closes_again, end_steps, comment_steps, close_agrees, start_made}
 use Rattle.hm_round_trip_laws.proofs.Closing.{start_name, falls_child, ChildFirst, child_first, falls_goes, goes_holds, p_in_body, closes_first, ends_inner, ends_body}
 use Rattle.hm_round_trip_laws.proofs.Follow.{AtEnd, body_ends, goes_on, at_end}
-use Rattle.hm_round_trip_laws.proofs.TreeTexts.{flag, flag_behind}
+use Rattle.hm_round_trip_laws.proofs.TreeTexts.{flag, flag_after}
 use Rattle.hm_round_trip_laws.proofs.TextElements.{in_text_is}
 use Rattle.hm_round_trip_laws.proofs.BodyTexts.{svg_mode, svg_no_text, plain_path, body_text}
 
@@ -106,7 +106,7 @@ closed_case g (end m f ∷ w) laws n foreign path before b ins settled ends insi
     settled' : SettledBody path w
     settled' = rw outside at settled.1
 
-    by : (k : EndForm) → EndSp g before m f path w k piece → SpellsFrom g (behind_end m k) path w rest → Builds g.table (here in_body path false) b w
+    by : (k : EndForm) → EndSp g before m f path w k piece → SpellsFrom g (after_end m k) path w rest → Builds g.table (here in_body path false) b w
     by EndForm.absent s more' = let cut : b ≡ rest = rw (e, s.0) refl in rw cut (law_of g w laws.1 path rest other ins settled' refl more')
     by EndForm.omitted s more' = absurd (both_ways (has_no_end_tag before m f) s.1 here_none)
     by EndForm.written s more' = absurd (both_ways (has_no_end_tag before m f) s.0 here_none)
@@ -143,7 +143,7 @@ void_ends : (n : List ℕ) (path : List Element) (w : List Event) → ElementAll
 void_ends n path w (inl (inside, s)) v = let bad : false ≡ true = s.kind in cc
 void_ends n path w (inr (out, a)) v = a.void_is_closed v
 
-written_goes : (n : List ℕ) (foreign : Bool) (path : List Element) (w : List Event) → ElementAllowed n foreign path w → GoesOn n foreign false path w (behind_start foreign StartForm.written)
+written_goes : (n : List ℕ) (foreign : Bool) (path : List Element) (w : List Event) → ElementAllowed n foreign path w → GoesOn n foreign false path w (after_start foreign StartForm.written)
 written_goes n true path w a = record { stays = λ h. refl; ends = λ h. let bad : false ≡ true = h in cc }
 written_goes n false path w a = record { stays = λ h. refl; ends = λ h. let v = void_of (is_void n) h in (void_ends n path w a v, v) }
   where
@@ -151,7 +151,7 @@ written_goes n false path w a = record { stays = λ h. refl; ends = λ h. let v 
     void_of true h = refl
     void_of false h = h
 
-slashed_goes : (n : List ℕ) (foreign : Bool) (path : List Element) (w : List Event) → ElementAllowed n foreign path w → may_be_slashed n foreign w ≡ true → GoesOn n foreign true path w (behind_start foreign StartForm.slashed)
+slashed_goes : (n : List ℕ) (foreign : Bool) (path : List Element) (w : List Event) → ElementAllowed n foreign path w → may_be_slashed n foreign w ≡ true → GoesOn n foreign true path w (after_start foreign StartForm.slashed)
 slashed_goes n true path w a h = record { stays = λ k. let bad : true ≡ false = k in cc; ends = λ k. (h, refl) }
 slashed_goes n false path w a h = record { stays = λ k. refl; ends = λ k. (void_ends n path w a h, h) }
 
@@ -188,11 +188,11 @@ written_start g sound next w laws n foreign attributes path piece rest drops sla
     by false h =
         let is : before ≡ opening = goes.stays h in
         let more' : SpellsFrom g opening (element n foreign ∷ path) w rest = subst (λ (x : Before). SpellsFrom g x (element n foreign ∷ path) w rest) is more in
-        written g.table (mode_of path) (here in_body path drops) (here in_body (element n foreign ∷ path) (steps.drops_behind (element n foreign ∷ path))) (start n foreign attributes ∷ []) w (piece ++ rest) 0 (tokens.start_tag n attributes slash) rest sound.names (is_mode path) refl read
+        written g.table (mode_of path) (here in_body path drops) (here in_body (element n foreign ∷ path) (steps.drops_after (element n foreign ∷ path))) (start n foreign attributes ∷ []) w (piece ++ rest) 0 (tokens.start_tag n attributes slash) rest sound.names (is_mode path) refl read
         (start_steps n foreign attributes slash path w drops allowed ∙ stays_open attributes slash n foreign path h)
-        (rw (flag_behind (element n foreign) path) (law_of g w laws (element n foreign ∷ path) rest opening (inner (element n foreign) path (stands_here n foreign path w allowed.element (solid h)) ins) settled refl more'))
+        (rw (flag_after (element n foreign) path) (law_of g w laws (element n foreign ∷ path) rest opening (inner (element n foreign) path (stands_here n foreign path w allowed.element (solid h)) ins) settled refl more'))
 
-kept_by : (path : List Element) (k : List ℕ) → yields (current path) k ≡ false → head_yields path k ≡ false
+kept_by : (path : List Element) (k : List ℕ) → is_closed_by_start (current path) k ≡ false → head_yields path k ≡ false
 kept_by [] k h = refl
 kept_by (e ∷ path) k h = h
 
@@ -209,18 +209,18 @@ omitted_start g sound next w laws n path rest drops ins out a settled c more =
     (law_of g w laws (html_element n ∷ path) rest opening (inner (html_element n) path stands ins) settled refl more)
 
 start_case : (g : Spelling) → Sound g.table → PiecesAreNext g → (w : List Event) → BodyLaws g w → (n : List ℕ) (foreign : Bool) (attributes : List Attribute) (path : List Element) (b piece rest : List ℕ) (before : Before) (drops : Bool) (form : StartForm)
-    → Inside path → StartAllowed n foreign attributes path w → SettledBody (element n foreign ∷ path) w → b ≡ piece ++ rest → StartSp g before n foreign attributes w form piece rest → SpellsFrom g (behind_start foreign form) (element n foreign ∷ path) w rest
+    → Inside path → StartAllowed n foreign attributes path w → SettledBody (element n foreign ∷ path) w → b ≡ piece ++ rest → StartSp g before n foreign attributes w form piece rest → SpellsFrom g (after_start foreign form) (element n foreign ∷ path) w rest
     → Builds g.table (here in_body path drops) b (start n foreign attributes ∷ w)
 start_case g sound next w laws n foreign attributes path b piece rest before drops StartForm.written ins allowed settled e sp more =
-    rw e (written_start g sound next w laws n foreign attributes path piece rest drops false (behind_start foreign StartForm.written) ins allowed settled (written_goes n foreign path w allowed.element) sp more)
+    rw e (written_start g sound next w laws n foreign attributes path piece rest drops false (after_start foreign StartForm.written) ins allowed settled (written_goes n foreign path w allowed.element) sp more)
 start_case g sound next w laws n foreign attributes path b piece rest before drops StartForm.slashed ins allowed settled e sp more =
-    rw e (written_start g sound next w laws n foreign attributes path piece rest drops true (behind_start foreign StartForm.slashed) ins allowed settled (slashed_goes n foreign path w allowed.element sp.0) sp.1 more)
+    rw e (written_start g sound next w laws n foreign attributes path piece rest drops true (after_start foreign StartForm.slashed) ins allowed settled (slashed_goes n foreign path w allowed.element sp.0) sp.1 more)
 start_case g sound next w laws n foreign attributes path b piece rest before drops StartForm.omitted ins allowed settled e sp more =
     let o = start_omitted g.rules (left_out_before before) n foreign attributes w sp.1 in
     let (out, a) = html_place n foreign path w o.is_html allowed.element in
     let a' : HtmlAllowed n false path w = subst (λ (f : Bool). HtmlAllowed n f path w) o.is_html a in
     let settled' : SettledBody (html_element n ∷ path) w = subst (λ (f : Bool). SettledBody (element n f ∷ path) w) o.is_html settled in
-    let more' : SpellsFrom g opening (html_element n ∷ path) w rest = subst (λ (f : Bool). SpellsFrom g (behind_start f StartForm.omitted) (element n f ∷ path) w rest) o.is_html more in
+    let more' : SpellsFrom g opening (html_element n ∷ path) w rest = subst (λ (f : Bool). SpellsFrom g (after_start f StartForm.omitted) (element n f ∷ path) w rest) o.is_html more in
     let child = falls_child g.rules.frame n w (stands_in n path a.stands).0.is_no_root o.falls in
     let cut : b ≡ rest = rw (e, sp.0) refl in
     rw (cut, o.is_html, o.plain) (omitted_start g sound next w laws n path rest drops ins out a' settled' (child_first g next w n path opening rest a.stands settled' child more') more')
@@ -244,13 +244,13 @@ p_left_open g sound next m foreign w n b drops is settled sp =
     let (named, kind, i) = ends_body g (end_omitted n) m foreign w b settled sp in
     rw (named, kind, is) (last_law g sound next i.form w i.piece i.rest b (end_omitted n) true drops i.settled refl i.whole i.spells i.more)
 
-up_at_end : (n : List ℕ) (parent : List ℕ) (m : List ℕ) (foreign : Bool) (w whole : List Event) → whole ≡ end m foreign ∷ w → end_goes n parent whole ≡ true → goes_up n parent ≡ true
+up_at_end : (n : List ℕ) (parent : List ℕ) (m : List ℕ) (foreign : Bool) (w whole : List Event) → whole ≡ end m foreign ∷ w → end_goes n parent whole ≡ true → end_tag_optional_in n parent ≡ true
 up_at_end n parent m foreign w whole is goes = rw is at goes
 
 omitted_end : (g : Spelling) → Sound g.table → PiecesAreNext g → (w : List Event) → BodyLaw g w → (n : List ℕ) (path : List Element) (b : List ℕ) (drops : Bool)
     → Stands (html_element n) path → Inside path → SettledBody path w → end_goes n (current path) w ≡ true → SpellsFrom g (end_omitted n) path w b → AtEnd path w → Builds g.table (here in_body (html_element n ∷ path) drops) b (end n false ∷ w)
 omitted_end g sound next w law n path b drops s ins settled goes sp (body_ends m foreign rest is whole) =
-    let up : goes_up n (current path) ≡ true = up_at_end n (current path) m foreign rest w whole goes in
+    let up : end_tag_optional_in n (current path) ≡ true = up_at_end n (current path) m foreign rest w whole goes in
     let at : bytes_eq (current path) body ≡ true = rw is refl in
     let settled' : SettledBody under_body (end m foreign ∷ rest) = rw (is, whole) at settled in
     let sp' : SpellsFrom g (end_omitted n) under_body (end m foreign ∷ rest) b = rw (is, whole) at sp in
@@ -265,7 +265,7 @@ omitted_end g sound next w law n path b drops s ins settled goes sp (goes_on wit
     (law path b (end_omitted n) ins settled refl sp)
 
 end_case : (g : Spelling) → Sound g.table → PiecesAreNext g → (w : List Event) → BodyLaw g w → (d : Element) (path : List Element) (b piece rest : List ℕ) (before : Before) (drops : Bool) (form : EndForm)
-    → Stands d path → Inside path → SettledBody path w → is_self_closing before ≡ false → b ≡ piece ++ rest → EndSp g before d.name d.foreign path w form piece → SpellsFrom g (behind_end d.name form) path w rest
+    → Stands d path → Inside path → SettledBody path w → is_self_closing before ≡ false → b ≡ piece ++ rest → EndSp g before d.name d.foreign path w form piece → SpellsFrom g (after_end d.name form) path w rest
     → Builds g.table (here in_body (d ∷ path) drops) b (end d.name d.foreign ∷ w)
 end_case g sound next w law d path b piece rest before drops EndForm.absent s ins settled fresh e sp more = absurd (never_absent before d path s fresh sp.1)
 end_case g sound next w law d path b piece rest before drops EndForm.omitted s ins settled fresh e sp more =
@@ -305,7 +305,7 @@ body_event g sound next (end m foreign) w laws path b before at_body settled fre
 body_event g sound next (end m foreign) w laws path b before (inner d outer s ins) settled fresh (form, piece, rest, e, sp, more) =
     let i = ends_inner d outer m foreign w s settled in
     let sp' : EndSp g before d.name d.foreign outer w form piece = rw (i.named, i.kind) at sp in
-    let more' : SpellsFrom g (behind_end d.name form) outer w rest = rw i.named at more in
+    let more' : SpellsFrom g (after_end d.name form) outer w rest = rw i.named at more in
     rw (i.named, i.kind) (end_case g sound next w (law_of g w laws) d outer b piece rest before (flag before (d ∷ outer)) form s ins i.settled fresh e sp' more')
 
 body_laws : (g : Spelling) → Sound g.table → PiecesAreNext g → (w : List Event) → BodyLaws g w

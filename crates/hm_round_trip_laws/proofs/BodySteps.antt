@@ -6,15 +6,15 @@ use Rattle.hm_base.specs.Walks.{Attribute, Event, start, end, comment, Element}
 use Rattle.hm_base.specs.declared.rules.Rule.TheVariants.{RefusedName, SecondRoot, BlockInParagraph, Nested, WrongParent, TooDeep}
 use Rattle.hm_elements.specs.Names.{is_among, html, head, body, svg}
 use Rattle.hm_elements.specs.Tables.{roots, headings, sections, blocks, is_root, is_void, is_refused, holds_text}
-use Rattle.hm_elements.specs.Nesting.{yields, ends_with, made_under, end_rows}
-use Rattle.hm_elements.specs.Paths.{html_element, current, current_name, is_in_svg, is_in_text, stands_on, head_yields, is_open, is_block_in_p, is_nested, is_deep, front, behind, yields_to, falls_to, made_on}
+use Rattle.hm_elements.specs.Nesting.{is_closed_by_start, ends_with, made_under, end_rows}
+use Rattle.hm_elements.specs.Paths.{html_element, current, current_name, is_in_svg, is_in_text, stands_on, head_yields, is_open, is_block_in_p, is_nested, is_deep, front, rest_after, is_closed_by_start_of, is_closed_by_end_of, made_on}
 use Rattle.hm_elements.specs.Places.{StartAllowed, HtmlAllowed, SvgAllowed, ElementAllowed}
 use Rattle.hm_elements.specs.Laws.{ParentIs, HoldsMore, StartIsMade}
 use Rattle.hm_elements.proofs.TableTools.{same_bytes, eq_self, each_pair, pair_passes}
 use Rattle.hm_elements.proofs.TableFacts.{stands_parent, stands_parent_holds, stands_made, ends_is_other, outer_is_not_deep}
-use Rattle.hm_settle.specs.Moves.{moves, refuses, element, opens_in_place, start_on, html_start_moves, start_moves, ends_nothing, end_on, end_moves}
+use Rattle.hm_open_elements.specs.Moves.{moves, refuses, element, opens_in_place, start_on, html_start_moves, start_moves, ends_nothing, end_on, end_moves}
 use Rattle.hm_tree.specs.Tokens as tokens
-use Rattle.hm_construction_laws.specs.Steps.{in_body, Construction, Stepped, went, stops, behind_events, under_body, drops_behind, closes_at_once, entered, end_event, start_event, starts, after_moves, start_in_body, after_end_moves, end_current, html_end, step, step_start, step_end}
+use Rattle.hm_construction_laws.specs.Steps.{in_body, Construction, Stepped, went, stops, stepped_after_events, under_body, drops_after, closes_at_once, entered, end_event, start_event, starts, after_moves, start_in_body, after_end_moves, end_current, html_end, step, step_start, step_end}
 use Rattle.hm_round_trip_laws.proofs.Ahead.{Ahead, tag, point, finish, Agree, events_twice}
 use Rattle.hm_round_trip_laws.proofs.Frame.{here}
 
@@ -55,11 +55,11 @@ element_no_root e path s h = no_root e.name (stands_in e.name path (s.stands h))
 
 -- ---- A start tag of an element that stands there
 
-pub events_none : (o : Stepped) → behind_events [] o ≡ o
+pub events_none : (o : Stepped) → stepped_after_events [] o ≡ o
 events_none (went es st) = refl
 events_none (stops rule n) = refl
 
-front_kept : (n : List ℕ) (path : List Element) → head_yields path n ≡ false → (front (yields_to n) path ≡ []) × (behind (yields_to n) path ≡ path)
+front_kept : (n : List ℕ) (path : List Element) → head_yields path n ≡ false → (front (is_closed_by_start_of n) path ≡ []) × (rest_after (is_closed_by_start_of n) path ≡ path)
 front_kept n [] h = (refl, refl)
 front_kept n (e ∷ path) h = rw h (refl, refl)
 
@@ -102,7 +102,7 @@ start_steps n foreign attributes slash path w drops a = by a.element
         ∙ start_opens n attributes slash path (element n foreign) (moves_in_html n path out ∙ html_moves n foreign path w out h a.not_deep)
 
 pub stays_open : (attributes : List Attribute) (slash : Bool) (n : List ℕ) (foreign : Bool) (path : List Element) → closes_at_once slash (element n foreign ∷ path) ≡ false
-    → entered attributes slash (here in_body path false) (element n foreign ∷ path) ≡ went (start n foreign attributes ∷ []) (here in_body (element n foreign ∷ path) (drops_behind (element n foreign ∷ path)))
+    → entered attributes slash (here in_body path false) (element n foreign ∷ path) ≡ went (start n foreign attributes ∷ []) (here in_body (element n foreign ∷ path) (drops_after (element n foreign ∷ path)))
 stays_open attributes slash n foreign path h = rw h refl
 
 pub closes_again : (attributes : List Attribute) (slash : Bool) (n : List ℕ) (foreign : Bool) (path : List Element) → closes_at_once slash (element n foreign ∷ path) ≡ true
@@ -135,13 +135,13 @@ comment_steps path drops s = refl
 
 -- the tag closes or ends the element n
 abbrev pub Closes : List ℕ → Ahead → Type 0
-Closes n (tag (tokens.start_tag m attributes slash)) = yields n m ≡ true
+Closes n (tag (tokens.start_tag m attributes slash)) = is_closed_by_start n m ≡ true
 Closes n (tag (tokens.end_tag m)) = ends_with n m ≡ true
 Closes n x = ⊥
 
 -- one more element closes
 start_on_more : (m : List ℕ) (attributes : List Attribute) (slash : Bool) (e : Element) (whole path : List Element) (drops : Bool) (closed left : List Element)
-    → after_moves attributes slash (here in_body (e ∷ whole) drops) (start_on m (e ∷ closed) left) ≡ behind_events (end_event e ∷ []) (after_moves attributes slash (here in_body path drops) (start_on m closed left))
+    → after_moves attributes slash (here in_body (e ∷ whole) drops) (start_on m (e ∷ closed) left) ≡ stepped_after_events (end_event e ∷ []) (after_moves attributes slash (here in_body path drops) (start_on m closed left))
 start_on_more m attributes slash e whole path drops closed left = by (is_block_in_p m left) (is_nested m left) (is_deep (made_on m left ++ left)) (stands_on m (made_on m left ++ left)) (is_deep (element m (bytes_eq m svg) ∷ (made_on m left ++ left)))
   where
     made : List Element
@@ -151,7 +151,7 @@ start_on_more m attributes slash e whole path drops closed left = by (is_block_i
     on = element m (bytes_eq m svg) ∷ (made_on m left ++ left)
 
     by : (a b c d f : Bool) → after_moves attributes slash (here in_body (e ∷ whole) drops) (cond a (refuses BlockInParagraph) (cond b (refuses Nested) (cond c (refuses TooDeep) (cond (not d) (refuses WrongParent) (cond f (refuses TooDeep) (moves (e ∷ closed) made on))))))
-        ≡ behind_events (end_event e ∷ []) (after_moves attributes slash (here in_body path drops) (cond a (refuses BlockInParagraph) (cond b (refuses Nested) (cond c (refuses TooDeep) (cond (not d) (refuses WrongParent) (cond f (refuses TooDeep) (moves closed made on)))))))
+        ≡ stepped_after_events (end_event e ∷ []) (after_moves attributes slash (here in_body path drops) (cond a (refuses BlockInParagraph) (cond b (refuses Nested) (cond c (refuses TooDeep) (cond (not d) (refuses WrongParent) (cond f (refuses TooDeep) (moves closed made on)))))))
     by true b c d f = refl
     by false true c d f = refl
     by false false true d f = refl
@@ -159,18 +159,18 @@ start_on_more m attributes slash e whole path drops closed left = by (is_block_i
     by false false false true true = refl
     by false false false true false = events_twice (end_event e ∷ []) (map end_event closed ++ starts made) (entered attributes slash (here in_body path drops) on)
 
-moved_more : (attributes : List Attribute) (slash : Bool) (m n : List ℕ) (path : List Element) → is_in_svg path ≡ false → yields n m ≡ true → start_in_body m attributes slash (here in_body (html_element n ∷ path) false) ≡ behind_events (end n false ∷ []) (start_in_body m attributes slash (here in_body path false))
+moved_more : (attributes : List Attribute) (slash : Bool) (m n : List ℕ) (path : List Element) → is_in_svg path ≡ false → is_closed_by_start n m ≡ true → start_in_body m attributes slash (here in_body (html_element n ∷ path) false) ≡ stepped_after_events (end n false ∷ []) (start_in_body m attributes slash (here in_body path false))
 unfolding start_moves
 moved_more attributes slash m n path out closes = rw (out, closes) (by (is_refused m) (is_root m))
   where
-    by : (a b : Bool) → after_moves attributes slash (here in_body (html_element n ∷ path) false) (cond a (refuses RefusedName) (cond b (refuses SecondRoot) (start_on m (html_element n ∷ front (yields_to m) path) (behind (yields_to m) path))))
-        ≡ behind_events (end n false ∷ []) (after_moves attributes slash (here in_body path false) (cond a (refuses RefusedName) (cond b (refuses SecondRoot) (start_on m (front (yields_to m) path) (behind (yields_to m) path)))))
+    by : (a b : Bool) → after_moves attributes slash (here in_body (html_element n ∷ path) false) (cond a (refuses RefusedName) (cond b (refuses SecondRoot) (start_on m (html_element n ∷ front (is_closed_by_start_of m) path) (rest_after (is_closed_by_start_of m) path))))
+        ≡ stepped_after_events (end n false ∷ []) (after_moves attributes slash (here in_body path false) (cond a (refuses RefusedName) (cond b (refuses SecondRoot) (start_on m (front (is_closed_by_start_of m) path) (rest_after (is_closed_by_start_of m) path)))))
     by true b = refl
     by false true = refl
-    by false false = start_on_more m attributes slash (html_element n) path path false (front (yields_to m) path) (behind (yields_to m) path)
+    by false false = start_on_more m attributes slash (html_element n) path path false (front (is_closed_by_start_of m) path) (rest_after (is_closed_by_start_of m) path)
 
-pub start_closes : (m : List ℕ) (attributes : List Attribute) (slash : Bool) (n : List ℕ) (path : List Element) (drops drops' : Bool) → is_in_svg path ≡ false → yields n m ≡ true
-    → step (here in_body (html_element n ∷ path) drops) (tokens.start_tag m attributes slash) ≡ behind_events (end n false ∷ []) (step (here in_body path drops') (tokens.start_tag m attributes slash))
+pub start_closes : (m : List ℕ) (attributes : List Attribute) (slash : Bool) (n : List ℕ) (path : List Element) (drops drops' : Bool) → is_in_svg path ≡ false → is_closed_by_start n m ≡ true
+    → step (here in_body (html_element n ∷ path) drops) (tokens.start_tag m attributes slash) ≡ stepped_after_events (end n false ∷ []) (step (here in_body path drops') (tokens.start_tag m attributes slash))
 unfolding step step_start
 start_closes m attributes slash n path drops drops' out closes = rw out (by (is_refused m) (bytes_eq m html) (bytes_eq m head) (bytes_eq m body) (moved_more attributes slash m n path out closes))
   where
@@ -180,9 +180,9 @@ start_closes m attributes slash n path drops drops' out closes = rw out (by (is_
     next : Construction
     next = here in_body path false
 
-    by : (a b c d : Bool) → start_in_body m attributes slash st ≡ behind_events (end n false ∷ []) (start_in_body m attributes slash next)
+    by : (a b c d : Bool) → start_in_body m attributes slash st ≡ stepped_after_events (end n false ∷ []) (start_in_body m attributes slash next)
         → cond a (stops RefusedName 0) (cond b (stops SecondRoot 0) (cond c (stops SecondRoot 0) (cond d (stops SecondRoot 0) (start_in_body m attributes slash st))))
-        ≡ behind_events (end n false ∷ []) (cond a (stops RefusedName 0) (cond b (stops SecondRoot 0) (cond c (stops SecondRoot 0) (cond d (stops SecondRoot 0) (start_in_body m attributes slash next)))))
+        ≡ stepped_after_events (end n false ∷ []) (cond a (stops RefusedName 0) (cond b (stops SecondRoot 0) (cond c (stops SecondRoot 0) (cond d (stops SecondRoot 0) (start_in_body m attributes slash next)))))
     by true b c d h = refl
     by false true c d h = refl
     by false false true d h = refl
@@ -202,22 +202,22 @@ ends_no_root n m h =
     record { no_html = not-true (bytes_eq m html) one.0; no_head = not-true (bytes_eq m head) two.0; no_body = not-true (bytes_eq m body) two.1 }
 
 end_on_more : (m : List ℕ) (e : Element) (whole path : List Element) (closed left : List Element) (somewhere : Bool)
-    → after_end_moves (here in_body (e ∷ whole) false) (end_on m (e ∷ closed) left somewhere) ≡ behind_events (end_event e ∷ []) (after_end_moves (here in_body path false) (end_on m closed left somewhere))
+    → after_end_moves (here in_body (e ∷ whole) false) (end_on m (e ∷ closed) left somewhere) ≡ stepped_after_events (end_event e ∷ []) (after_end_moves (here in_body path false) (end_on m closed left somewhere))
 end_on_more m e whole path closed [] true = refl
 end_on_more m e whole path closed [] false = refl
 end_on_more m e whole path closed (f ∷ left) somewhere = by (bytes_eq f.name m) somewhere
   where
-    by : (a b : Bool) → after_end_moves (here in_body (e ∷ whole) false) (cond a (moves ((e ∷ closed) ++ f ∷ []) [] left) (ends_nothing b)) ≡ behind_events (end_event e ∷ []) (after_end_moves (here in_body path false) (cond a (moves (closed ++ f ∷ []) [] left) (ends_nothing b)))
+    by : (a b : Bool) → after_end_moves (here in_body (e ∷ whole) false) (cond a (moves ((e ∷ closed) ++ f ∷ []) [] left) (ends_nothing b)) ≡ stepped_after_events (end_event e ∷ []) (after_end_moves (here in_body path false) (cond a (moves (closed ++ f ∷ []) [] left) (ends_nothing b)))
     by true b = refl
     by false true = refl
     by false false = refl
 
-ended_more : (m n : List ℕ) (path : List Element) → is_in_svg path ≡ false → bytes_eq n m ≡ false → ends_with n m ≡ true → after_end_moves (here in_body (html_element n ∷ path) false) (end_moves m (html_element n ∷ path)) ≡ behind_events (end n false ∷ []) (after_end_moves (here in_body path false) (end_moves m path))
+ended_more : (m n : List ℕ) (path : List Element) → is_in_svg path ≡ false → bytes_eq n m ≡ false → ends_with n m ≡ true → after_end_moves (here in_body (html_element n ∷ path) false) (end_moves m (html_element n ∷ path)) ≡ stepped_after_events (end n false ∷ []) (after_end_moves (here in_body path false) (end_moves m path))
 unfolding end_moves
-ended_more m n path out other closes = rw (out, other, closes) (end_on_more m (html_element n) path path (front (falls_to m) path) (behind (falls_to m) path) (is_open m path))
+ended_more m n path out other closes = rw (out, other, closes) (end_on_more m (html_element n) path path (front (is_closed_by_end_of m) path) (rest_after (is_closed_by_end_of m) path) (is_open m path))
 
 pub end_closes : (m n : List ℕ) (path : List Element) (drops drops' : Bool) → is_in_svg path ≡ false → holds_text n ≡ false → is_in_text path ≡ false → ends_with n m ≡ true
-    → step (here in_body (html_element n ∷ path) drops) (tokens.end_tag m) ≡ behind_events (end n false ∷ []) (step (here in_body path drops') (tokens.end_tag m))
+    → step (here in_body (html_element n ∷ path) drops) (tokens.end_tag m) ≡ stepped_after_events (end n false ∷ []) (step (here in_body path drops') (tokens.end_tag m))
 unfolding step step_end
 end_closes m n path drops drops' out holds holds' closes =
     let root = ends_no_root n m closes in
@@ -236,21 +236,21 @@ close_agrees n path drops drops' finish out holds holds' c = absurd c
 -- ---- A start tag that makes the element before it
 
 made_more : (k : List ℕ) (attributes : List Attribute) (slash : Bool) (e : Element) (path : List Element)
-    → after_moves attributes slash (here in_body path false) (opens_in_place k [] (e ∷ []) (e ∷ path)) ≡ behind_events (start_event e ∷ []) (after_moves attributes slash (here in_body (e ∷ path) false) (opens_in_place k [] [] (e ∷ path)))
+    → after_moves attributes slash (here in_body path false) (opens_in_place k [] (e ∷ []) (e ∷ path)) ≡ stepped_after_events (start_event e ∷ []) (after_moves attributes slash (here in_body (e ∷ path) false) (opens_in_place k [] [] (e ∷ path)))
 made_more k attributes slash e path = by (is_deep (e ∷ path)) (stands_on k (e ∷ path)) (is_deep (element k (bytes_eq k svg) ∷ e ∷ path))
   where
     on : List Element
     on = element k (bytes_eq k svg) ∷ e ∷ path
 
     by : (c d f : Bool) → after_moves attributes slash (here in_body path false) (cond c (refuses TooDeep) (cond (not d) (refuses WrongParent) (cond f (refuses TooDeep) (moves [] (e ∷ []) on))))
-        ≡ behind_events (start_event e ∷ []) (after_moves attributes slash (here in_body (e ∷ path) false) (cond c (refuses TooDeep) (cond (not d) (refuses WrongParent) (cond f (refuses TooDeep) (moves [] [] on)))))
+        ≡ stepped_after_events (start_event e ∷ []) (after_moves attributes slash (here in_body (e ∷ path) false) (cond c (refuses TooDeep) (cond (not d) (refuses WrongParent) (cond f (refuses TooDeep) (moves [] [] on)))))
     by true d f = refl
     by false false f = refl
     by false true true = refl
-    by false true false = ap (behind_events (start_event e ∷ [])) (sym (events_none (entered attributes slash (here in_body path false) on)))
+    by false true false = ap (stepped_after_events (start_event e ∷ [])) (sym (events_none (entered attributes slash (here in_body path false) on)))
 
 made_start : (attributes : List Attribute) (slash : Bool) (n k t : List ℕ) (path : List Element) → is_in_svg path ≡ false → t ≡ current path → StartIsMade n k t → head_yields path k ≡ false → made_under n k ≡ []
-    → start_in_body k attributes slash (here in_body path false) ≡ behind_events (start n false [] ∷ []) (start_in_body k attributes slash (here in_body (html_element n ∷ path) false))
+    → start_in_body k attributes slash (here in_body path false) ≡ stepped_after_events (start n false [] ∷ []) (start_in_body k attributes slash (here in_body (html_element n ∷ path) false))
 unfolding start_moves
 made_start attributes slash n k t path out same s kept none =
     let f = front_kept k path kept in
@@ -258,9 +258,9 @@ made_start attributes slash n k t path out same s kept none =
     rw (out, f.0, f.1, s.kept_inside, s.no_block_in_p path, s.not_nested path, s.no_block_in_p (html_element n ∷ path), s.not_nested (html_element n ∷ path), makes, none) (by (is_refused k) (is_root k) (made_more k attributes slash (html_element n) path))
   where
     by : (a b : Bool)
-        → after_moves attributes slash (here in_body path false) (opens_in_place k [] (html_element n ∷ []) (html_element n ∷ path)) ≡ behind_events (start n false [] ∷ []) (after_moves attributes slash (here in_body (html_element n ∷ path) false) (opens_in_place k [] [] (html_element n ∷ path)))
+        → after_moves attributes slash (here in_body path false) (opens_in_place k [] (html_element n ∷ []) (html_element n ∷ path)) ≡ stepped_after_events (start n false [] ∷ []) (after_moves attributes slash (here in_body (html_element n ∷ path) false) (opens_in_place k [] [] (html_element n ∷ path)))
         → after_moves attributes slash (here in_body path false) (cond a (refuses RefusedName) (cond b (refuses SecondRoot) (opens_in_place k [] (html_element n ∷ []) (html_element n ∷ path))))
-        ≡ behind_events (start n false [] ∷ []) (after_moves attributes slash (here in_body (html_element n ∷ path) false) (cond a (refuses RefusedName) (cond b (refuses SecondRoot) (opens_in_place k [] [] (html_element n ∷ path)))))
+        ≡ stepped_after_events (start n false [] ∷ []) (after_moves attributes slash (here in_body (html_element n ∷ path) false) (cond a (refuses RefusedName) (cond b (refuses SecondRoot) (opens_in_place k [] [] (html_element n ∷ path)))))
     by true b h = refl
     by false true h = refl
     by false false h = h
@@ -276,9 +276,9 @@ start_made attributes slash n k t path drops drops' out same s kept none = rw ou
     next : Construction
     next = here in_body (html_element n ∷ path) false
 
-    by : (a b c d : Bool) → start_in_body k attributes slash st ≡ behind_events (start n false [] ∷ []) (start_in_body k attributes slash next)
+    by : (a b c d : Bool) → start_in_body k attributes slash st ≡ stepped_after_events (start n false [] ∷ []) (start_in_body k attributes slash next)
         → cond a (stops RefusedName 0) (cond b (stops SecondRoot 0) (cond c (stops SecondRoot 0) (cond d (stops SecondRoot 0) (start_in_body k attributes slash st))))
-        ≡ behind_events (start n false [] ∷ []) (cond a (stops RefusedName 0) (cond b (stops SecondRoot 0) (cond c (stops SecondRoot 0) (cond d (stops SecondRoot 0) (start_in_body k attributes slash next)))))
+        ≡ stepped_after_events (start n false [] ∷ []) (cond a (stops RefusedName 0) (cond b (stops SecondRoot 0) (cond c (stops SecondRoot 0) (cond d (stops SecondRoot 0) (start_in_body k attributes slash next)))))
     by true b c d h = refl
     by false true c d h = refl
     by false false true d h = refl

@@ -12,7 +12,7 @@ use Rattle.hm_token_laws.specs.First.{ordinary, in_svg}
 use Rattle.hm_token_laws.proofs.TextReads.{markup_ends_texts}
 use Rattle.hm_spelling_spec.specs.Tags.{Spelling}
 use Rattle.hm_spelling_spec.specs.Spellings.{Before, other, TextSp, drops_first_line_feed, SpellsFrom}
-use Rattle.hm_construction_laws.specs.Steps.{InsertionMode, initial, before_html, before_head, in_head, after_head, in_body, after_body, after_html, Construction, Stepped, went, stops, behind_events, moved, no_drop, under_html, under_head, under_body, make_head, close_head, make_body, reach_body, is_in_noscript, keep_byte, kept_byte, space_byte, body_byte, step_byte}
+use Rattle.hm_construction_laws.specs.Steps.{InsertionMode, initial, before_html, before_head, in_head, after_head, in_body, after_body, after_html, Construction, Stepped, went, stops, stepped_after_events, moved, no_drop, under_html, under_head, under_body, make_head, close_head, make_body, reach_body, is_in_noscript, keep_byte, kept_byte, space_byte, body_byte, step_byte}
 use Rattle.hm_construction_laws.specs.Trees.{mode_of}
 use Rattle.hm_construction_laws.proofs.Bytes.{no_text_no_raw}
 use Rattle.hm_construction_laws.proofs.Texts.{texts}
@@ -94,9 +94,9 @@ svg_text g sound next path s piece rest before w ins inside a settled sp spells 
 abbrev pub Plain : Construction → Type 0
 Plain st = mode_of st.path ≡ ordinary
 
-holds_behind : (P : Construction → Type 0) (es : List Event) (o : Stepped) → Holds P (run_of o) → Holds P (run_of (behind_events es o))
-holds_behind P es (went fs st) h = h
-holds_behind P es (stops rule n) h = tt
+holds_after : (P : Construction → Type 0) (es : List Event) (o : Stepped) → Holds P (run_of o) → Holds P (run_of (stepped_after_events es o))
+holds_after P es (went fs st) h = h
+holds_after P es (stops rule n) h = tt
 
 plain_body_byte : (c : ℕ) (st : Construction) → Plain st → Holds Plain (run_of (body_byte c st))
 plain_body_byte c st on = by (is_in_blank st.path)
@@ -106,17 +106,17 @@ plain_body_byte c st on = by (is_in_blank st.path)
     by false = on
 
 plain_made : (c : ℕ) (st : Construction) → Holds Plain (run_of (make_body (body_byte c) st))
-plain_made c st = holds_behind Plain (start body false [] ∷ []) (body_byte c (moved st in_body under_body)) (plain_body_byte c (moved st in_body under_body) frame_modes.1.1.1.0)
+plain_made c st = holds_after Plain (start body false [] ∷ []) (body_byte c (moved st in_body under_body)) (plain_body_byte c (moved st in_body under_body) frame_modes.1.1.1.0)
 
 plain_closed : (c : ℕ) (st : Construction) → Holds Plain (run_of (close_head (make_body (body_byte c)) st))
-plain_closed c st = holds_behind Plain (end head false ∷ []) (make_body (body_byte c) (moved st after_head under_html)) (plain_made c (moved st after_head under_html))
+plain_closed c st = holds_after Plain (end head false ∷ []) (make_body (body_byte c) (moved st after_head under_html)) (plain_made c (moved st after_head under_html))
 
 plain_head : (c : ℕ) (st : Construction) → Holds Plain (run_of (make_head (close_head (make_body (body_byte c))) st))
-plain_head c st = holds_behind Plain (start head false [] ∷ []) (close_head (make_body (body_byte c)) (moved st in_head under_head)) (plain_closed c (moved st in_head under_head))
+plain_head c st = holds_after Plain (start head false [] ∷ []) (close_head (make_body (body_byte c)) (moved st in_head under_head)) (plain_closed c (moved st in_head under_head))
 
 plain_reached : (mode : InsertionMode) (c : ℕ) (st : Construction) → Plain st → Holds Plain (run_of (reach_body mode (body_byte c) st))
 plain_reached initial c st on = tt
-plain_reached before_html c st on = holds_behind Plain (start html false [] ∷ []) (make_head (close_head (make_body (body_byte c))) (moved st before_head under_html)) (plain_head c (moved st before_head under_html))
+plain_reached before_html c st on = holds_after Plain (start html false [] ∷ []) (make_head (close_head (make_body (body_byte c))) (moved st before_head under_html)) (plain_head c (moved st before_head under_html))
 plain_reached before_head c st on = plain_head c st
 plain_reached in_head c st on = plain_closed c st
 plain_reached after_head c st on = plain_made c st

@@ -8,7 +8,7 @@ use Rattle.hm_base.specs.Bytes.{all_pass, lower, is_space}
 use Rattle.hm_base.specs.Forms.{has_byte, is_blank}
 use Rattle.hm_scan.proofs.Lowered.{lower_cases}
 use Rattle.hm_token_laws.proofs.Bools.{or_parts}
-use Rattle.hm_token_laws.proofs.Plain.{pass_both, utf8_both, utf8_before, utf8_from, utf8_behind}
+use Rattle.hm_token_laws.proofs.Plain.{pass_both, utf8_both, utf8_before, utf8_from, utf8_after}
 use Rattle.hm_token_laws.proofs.References.{is_ascii, low_ascii}
 use Rattle.hm_token_laws.proofs.Values.{ascii_utf8}
 use Rattle.hm_round_trip_laws.proofs.Encoded.{PassesHigh}
@@ -106,15 +106,15 @@ lower_no_zero c h = grind arith
 pub clean_word : (s word : List ℕ) → map lower s ≡ word → all_pass is_plain word ≡ true → Clean s
 clean_word s word e h = clean_ascii s (lower_passes is_plain s lower_plain (subst (λ x. all_pass is_plain x ≡ true) (sym e) h))
 
-lower_utf8_behind : (s p : List ℕ) → is_utf8 (p ++ map lower s) ≡ true → is_utf8 (p ++ s) ≡ true
-lower_utf8_behind [] p h = h
-lower_utf8_behind (c ∷ s) p h = by_case (lower_cases c) (λ q i. lower_utf8_behind s q i)
+lower_utf8_after : (s p : List ℕ) → is_utf8 (p ++ map lower s) ≡ true → is_utf8 (p ++ s) ≡ true
+lower_utf8_after [] p h = h
+lower_utf8_after (c ∷ s) p h = by_case (lower_cases c) (λ q i. lower_utf8_after s q i)
   where
     by_case : ((65 ≤ c) × (c ≤ 90) × (lower c ≡ c + 32)) ⊎ (((c < 65) ⊎ (90 < c)) × (lower c ≡ c)) → ((q : List ℕ) → is_utf8 (q ++ map lower s) ≡ true → is_utf8 (q ++ s) ≡ true)
         → is_utf8 (p ++ c ∷ s) ≡ true
     by_case (inl (low, high, e)) more =
         let front = utf8_before p (map lower s) (lower c) (omega arith) h in
-        let rest = more [] (utf8_behind (map lower s) (lower c) (omega arith) (utf8_from p (map lower s) (lower c) (omega arith) h)) in
+        let rest = more [] (utf8_after (map lower s) (lower c) (omega arith) (utf8_from p (map lower s) (lower c) (omega arith) h)) in
         let one : is_ascii c ≡ true = low_ascii c (omega arith) in
         utf8_both p (c ∷ s) front (utf8_both (c ∷ []) s (ascii_utf8 (c ∷ []) (rw one refl)) rest)
     by_case (inr (apart, e)) more =
@@ -125,5 +125,5 @@ lower_utf8_behind (c ∷ s) p h = by_case (lower_cases c) (λ q i. lower_utf8_be
 pub clean_lowered : (s name : List ℕ) → map lower s ≡ name → Clean name → Clean s
 clean_lowered s name e h = record {
   bytes = lower_passes is_no_zero s lower_no_zero (subst (λ x. all_pass is_no_zero x ≡ true) (sym e) h.bytes);
-  utf8 = lower_utf8_behind s [] (subst (λ x. is_utf8 x ≡ true) (sym e) h.utf8);
+  utf8 = lower_utf8_after s [] (subst (λ x. is_utf8 x ≡ true) (sym e) h.utf8);
 }

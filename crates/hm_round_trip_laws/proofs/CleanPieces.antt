@@ -11,7 +11,7 @@ use Rattle.hm_elements.specs.Settled.{all_names_in_form, all_utf8, no_zero_in_va
 use Rattle.hm_elements.specs.Places.{AttributesAllowed}
 use Rattle.hm_elements.proofs.NameFacts.{tag_name_is_utf8, tag_name_has_no_zero}
 use Rattle.hm_markup_spec.specs.Doctypes.{IsPlainDoctype, IsLegacyDoctype, WritesDoctype}
-use Rattle.hm_markup_spec.specs.Tags.{Form, bare, unquoted, double, single, IsAssigned, parts_attributes, parts_slash, WritesAttributes, tag_end, WritesEnd}
+use Rattle.hm_markup_spec.specs.Tags.{Quoting, bare, unquoted, double, single, IsAssigned, parts_attributes, parts_slash, WritesAttributes, tag_end, WritesEnd}
 use Rattle.hm_markup_spec.proofs.Gaps.{gap_blank}
 use Rattle.hm_refs.specs.Names.{Entry}
 use Rattle.hm_refs.specs.Tables.{IsTable}
@@ -107,8 +107,8 @@ amp_plain : is_plain 38 ≡ true
 unfolding is_plain
 amp_plain = refl
 
-clean_reference : (t : List Entry) (spot : Spot) (qs b behind : List ℕ) → IsTable t → Refers t spot qs b behind → Clean b
-clean_reference t spot qs b behind k r = clean_ascii b (reference_pass t spot is_plain qs b behind k amp_plain few_plain r)
+clean_reference : (t : List Entry) (spot : Spot) (qs b follows : List ℕ) → IsTable t → Refers t spot qs b follows → Clean b
+clean_reference t spot qs b follows k r = clean_ascii b (reference_pass t spot is_plain qs b follows k amp_plain few_plain r)
 
 section_marks : Clean (codes "<![CDATA[") × Clean (codes "]]>")
 unfolding is_plain
@@ -143,13 +143,13 @@ marks = (refl, refl, refl, refl, refl, refl)
 
 clean_assigned : (v b : List ℕ) → Clean v → IsAssigned v b → Clean b
 clean_assigned v b h w =
-    let behind = clean_both (61 ∷ []) (w.right ++ v) (clean_byte 61 marks.2) (clean_both w.right v (clean_blank w.right w.right_blank) h) in
-    subst Clean (sym w.is) (clean_both w.left (61 ∷ (w.right ++ v)) (clean_blank w.left w.left_blank) behind)
+    let follows = clean_both (61 ∷ []) (w.right ++ v) (clean_byte 61 marks.2) (clean_both w.right v (clean_blank w.right w.right_blank) h) in
+    subst Clean (sym w.is) (clean_both w.left (61 ∷ (w.right ++ v)) (clean_blank w.left w.left_blank) follows)
 
 clean_quoted : (quote : ℕ) (v b : List ℕ) → is_plain quote ≡ true → Clean v → IsAssigned (quote ∷ (v ++ quote ∷ [])) b → Clean b
 clean_quoted quote v b q h w = clean_assigned (quote ∷ (v ++ quote ∷ [])) b (clean_both (quote ∷ []) (v ++ quote ∷ []) (clean_byte quote q) (clean_both v (quote ∷ []) h (clean_byte quote q))) w
 
-clean_value : (g : Spelling) (form : Form) (value b after : List ℕ) → IsTable g.table → Clean value → SpellsValue g form value b after → Clean b
+clean_value : (g : Spelling) (form : Quoting) (value b after : List ℕ) → IsTable g.table → Clean value → SpellsValue g form value b after → Clean b
 clean_value g bare value b after k h w = subst Clean (sym w.1) clean_nothing
 clean_value g unquoted value b after k h w = clean_assigned w.written b (clean_spelled g.table (character_rules g) _ (chars value) w.written after k (text_points value h) w.spells) w.is
 clean_value g double value b after k h w = clean_quoted 34 w.written b marks.0 (clean_spelled g.table (character_rules g) _ (chars value) w.written (34 ∷ after) k (text_points value h) w.spells) w.is
@@ -193,7 +193,7 @@ first_good a attributes h =
     let both = and_parts (is_utf8 a.name) (is_utf8 a.value) texts.0 in
     record { name = name_clean a named.0 both.0; value = clean_text a.value (not-true (has_byte 0 a.value) zeros.0) both.1; more = record { names = named.1; no_zero = zeros.1; utf8 = texts.1 } }
 
-clean_attributes : (g : Spelling) (touching : Bool) (before last : Form) (attributes : List Attribute) (b after : List ℕ) → IsTable g.table → GoodAttributes attributes → WritesAttributes (SpellsValue g) touching before last attributes b after → Clean b
+clean_attributes : (g : Spelling) (touching : Bool) (before last : Quoting) (attributes : List Attribute) (b after : List ℕ) → IsTable g.table → GoodAttributes attributes → WritesAttributes (SpellsValue g) touching before last attributes b after → Clean b
 clean_attributes g touching before last [] b after k h w = subst Clean (sym w.1) clean_nothing
 clean_attributes g touching before last (a ∷ attributes) b after k h (form, piece, rest, is, w, ws) =
     let good = first_good a attributes h in
@@ -217,14 +217,14 @@ clean_start g name attributes slash b after k h a w =
     let good : GoodAttributes attributes = record { names = a.names; no_zero = a.no_zero; utf8 = a.utf8 } in
     let middle = clean_attributes g g.rules.tight bare w.last attributes w.middle (w.gap ++ (tag_end slash ++ after)) k good w.attributed in
     let tail = clean_both w.gap (tag_end slash) (clean_blank w.gap (gap_blank (slash && parts_slash w.last) w.gap w.apart)) (clean_tag_end slash) in
-    let behind = clean_both w.written (w.middle ++ (w.gap ++ tag_end slash)) (tag_name_clean name w.written h w.lowered) (clean_both w.middle (w.gap ++ tag_end slash) middle tail) in
-    subst Clean (sym w.is) (clean_both (60 ∷ []) (w.written ++ (w.middle ++ (w.gap ++ tag_end slash))) (clean_byte 60 marks.3) behind)
+    let follows = clean_both w.written (w.middle ++ (w.gap ++ tag_end slash)) (tag_name_clean name w.written h w.lowered) (clean_both w.middle (w.gap ++ tag_end slash) middle tail) in
+    subst Clean (sym w.is) (clean_both (60 ∷ []) (w.written ++ (w.middle ++ (w.gap ++ tag_end slash))) (clean_byte 60 marks.3) follows)
 
 pub clean_end : (name b : List ℕ) → is_tag_name name ≡ true → WritesEnd name b → Clean b
 clean_end name b h w =
     let tail = clean_both w.gap (62 ∷ []) (clean_blank w.gap w.blank) (clean_byte 62 marks.5) in
-    let behind = clean_both w.written (w.gap ++ 62 ∷ []) (tag_name_clean name w.written h w.lowered) tail in
-    let slash = clean_both (47 ∷ []) (w.written ++ (w.gap ++ 62 ∷ [])) (clean_byte 47 marks.4) behind in
+    let follows = clean_both w.written (w.gap ++ 62 ∷ []) (tag_name_clean name w.written h w.lowered) tail in
+    let slash = clean_both (47 ∷ []) (w.written ++ (w.gap ++ 62 ∷ [])) (clean_byte 47 marks.4) follows in
     subst Clean (sym w.is) (clean_both (60 ∷ []) (47 ∷ (w.written ++ (w.gap ++ 62 ∷ []))) (clean_byte 60 marks.3) slash)
 
 -- ---- doctypes and comments

@@ -48,10 +48,10 @@ not_here : (name : List ℕ) (c : ℕ) (s : List ℕ) → no_lt c ≡ true → b
 unfolding begins_end_tag no_lt
 not_here name c s h = rw (lower_lt c h) refl
 
-not_behind : (name s : List ℕ) → not (head_is (λ c. c == 47) s) ≡ true → begins_end_tag name (60 ∷ s) ≡ false
+not_after : (name s : List ℕ) → not (head_is (λ c. c == 47) s) ≡ true → begins_end_tag name (60 ∷ s) ≡ false
 unfolding begins_end_tag
-not_behind name [] h = rw lt_lower refl
-not_behind name (c ∷ s) h = by_test (c == 47) refl h
+not_after name [] h = rw lt_lower refl
+not_after name (c ∷ s) h = by_test (c == 47) refl h
   where
     by_test : (b : Bool) → (c == 47) ≡ b → not b ≡ true → is_found_whole (cond (60 == lower 60) (cond (47 == lower c) (strip_word name s) None) None) ≡ false
     by_test true e h = absurd (cc)
@@ -79,7 +79,7 @@ itself_place t name c s i h = by_test (c == 60) refl
         let same : c ≡ 60 = eqb-true c 60 e in
         let one : encode c ≡ 60 ∷ [] = ap encode same ∙ encode_ascii 60 (omega arith) in
         let at : i + 1 ≡ suc i = omega arith in
-        rw (one, not_behind name s (lt_stays (subst (λ x. stays t rcdata x s ≡ true) same h)), at) refl
+        rw (one, not_after name s (lt_stays (subst (λ x. stays t rcdata x s ≡ true) same h)), at) refl
     by_test false e = passed_place name (encode c) s i (encode_passes no_lt c no_lt_high (rw e refl))
 
 pieces_place : (t : List Entry) (rules : CharacterRules) (name : List ℕ) (ps : List Piece) (after : List ℕ) (i : ℕ) → IsTable t → begins_end_tag name after ≡ true → AreAllowed t rules rcdata ps after

@@ -11,13 +11,13 @@ use Rattle.hm_token_laws.specs.First.{ordinary, in_svg}
 use Rattle.hm_scan.specs.Texts.{begins_markup}
 use Rattle.hm_spelling_spec.specs.Tags.{Spelling}
 use Rattle.hm_spelling_spec.specs.Omission.{end_goes}
-use Rattle.hm_spelling_spec.specs.Spellings.{Before, end_omitted, StartForm, EndForm, StartSp, EndSp, is_self_closing, behind_start, behind_end, left_out_before, SpellsFrom}
-use Rattle.hm_settle.specs.Moves.{element}
+use Rattle.hm_spelling_spec.specs.Spellings.{Before, end_omitted, StartForm, EndForm, StartSp, EndSp, is_self_closing, after_start, after_end, left_out_before, SpellsFrom}
+use Rattle.hm_open_elements.specs.Moves.{element}
 use Rattle.hm_construction_laws.specs.Steps.{under_body}
 use Rattle.hm_round_trip_laws.proofs.Pieces.{PiecesAreNext}
 use Rattle.hm_round_trip_laws.proofs.Ahead.{Ahead, tag, TextFront, any_front}
 use Rattle.hm_round_trip_laws.proofs.Frame.{First, start_omitted, end_omitted_is}
-use Rattle.hm_round_trip_laws.proofs.Behind.{not_absent}
+use Rattle.hm_round_trip_laws.proofs.LastEvents.{not_absent}
 use Rattle.hm_round_trip_laws.proofs.BodySteps.{Inside, at_body, inner, Stands, stands_in, element_no_root}
 use Rattle.hm_round_trip_laws.proofs.Closing.{html_part, start_name, falls_child, child_first, falls_goes, closes_first, ends_inner, ends_body, body_end_first}
 
@@ -43,7 +43,7 @@ fronted : (t : List Entry) (b : List ℕ) (P : Ahead → Type 0) → First t P b
 fronted t b P (x, is, begins) = any_front t b x begins
 
 start_follows : (g : Spelling) → PiecesAreNext g → (w : List Event) (n : List ℕ) (foreign : Bool) (attributes : List Attribute) (path : List Element) (before : Before) (b piece rest : List ℕ) (form : StartForm)
-    → is_in_svg path ≡ false → StartAllowed n foreign attributes path w → SettledBody (element n foreign ∷ path) w → b ≡ piece ++ rest → StartSp g before n foreign attributes w form piece rest → SpellsFrom g (behind_start foreign form) (element n foreign ∷ path) w rest → Fronted g.table b
+    → is_in_svg path ≡ false → StartAllowed n foreign attributes path w → SettledBody (element n foreign ∷ path) w → b ≡ piece ++ rest → StartSp g before n foreign attributes w form piece rest → SpellsFrom g (after_start foreign form) (element n foreign ∷ path) w rest → Fronted g.table b
 start_follows g next w n foreign attributes path before b piece rest StartForm.written out allowed settled e sp more =
     any_front g.table b (tag (tokens.start_tag n attributes false)) (rest, rw e (next.starts ordinary n attributes false piece rest refl (start_name n foreign path w allowed.element) allowed.attributes_allowed sp))
 start_follows g next w n foreign attributes path before b piece rest StartForm.slashed out allowed settled e sp more =
@@ -53,8 +53,8 @@ start_follows g next w n foreign attributes path before b piece rest StartForm.o
     let o = start_omitted g.rules (left_out_before before) n foreign attributes w sp.1 in
     let child = falls_child g.rules.frame n w (stands_in n path h.stands).0.is_no_root o.falls in
     let settled' : SettledBody (html_element n ∷ path) w = subst (λ (f : Bool). SettledBody (element n f ∷ path) w) o.is_html settled in
-    let more' : SpellsFrom g (behind_start false StartForm.omitted) (html_element n ∷ path) w rest = subst (λ (f : Bool). SpellsFrom g (behind_start f StartForm.omitted) (element n f ∷ path) w rest) o.is_html more in
-    let c = child_first g next w n path (behind_start false StartForm.omitted) rest h.stands settled' child more' in
+    let more' : SpellsFrom g (after_start false StartForm.omitted) (html_element n ∷ path) w rest = subst (λ (f : Bool). SpellsFrom g (after_start f StartForm.omitted) (element n f ∷ path) w rest) o.is_html more in
+    let c = child_first g next w n path (after_start false StartForm.omitted) rest h.stands settled' child more' in
     any_front g.table b (tag (tokens.start_tag c.child c.attributes c.slash)) (rw (e, sp.0) c.begins)
 
 body_follows : (g : Spelling) → PiecesAreNext g → (m : List ℕ) (foreign : Bool) (w : List Event) (b : List ℕ) (before : Before) → SettledBody under_body (end m foreign ∷ w) → is_self_closing before ≡ false → SpellsFrom g before under_body (end m foreign ∷ w) b → Fronted g.table b
@@ -70,7 +70,7 @@ omitted_follows g next w d path b s ins out settled goes sp (body_ends m foreign
     body_follows g next m foreign rest b (end_omitted d.name) settled' refl sp'
 
 end_follows : (g : Spelling) → PiecesAreNext g → (w : List Event) (d : Element) (path : List Element) (before : Before) (b piece rest : List ℕ) (form : EndForm) → Stands d path → Inside path → d.foreign ≡ false → SettledBody path w → is_self_closing before ≡ false
-    → b ≡ piece ++ rest → EndSp g before d.name d.foreign path w form piece → SpellsFrom g (behind_end d.name form) path w rest → Fronted g.table b
+    → b ≡ piece ++ rest → EndSp g before d.name d.foreign path w form piece → SpellsFrom g (after_end d.name form) path w rest → Fronted g.table b
 end_follows g next w d path before b piece rest EndForm.absent s ins out settled fresh e sp more = absurd (not_absent before d.name d.foreign fresh (s.solid out) sp.1)
 end_follows g next w d path before b piece rest EndForm.written s ins out settled fresh e sp more =
     any_front g.table b (tag (tokens.end_tag d.name)) (rest, rw e (next.ends ordinary d.name piece rest refl s.name sp.1))
@@ -90,7 +90,7 @@ text_follows g next (end m foreign ∷ w) path before b at_body out settled alon
 text_follows g next (end m foreign ∷ w) path before b (inner d outer s ins) out settled alone fresh (form, piece, rest, e, sp, more) =
     let i = ends_inner d outer m foreign w s settled in
     let sp' : EndSp g before d.name d.foreign outer w form piece = rw (i.named, i.kind) at sp in
-    let more' : SpellsFrom g (behind_end d.name form) outer w rest = rw i.named at more in
+    let more' : SpellsFrom g (after_end d.name form) outer w rest = rw i.named at more in
     end_follows g next w d outer before b piece rest form s ins out i.settled fresh e sp' more'
 
 -- ---- In an element of SVG

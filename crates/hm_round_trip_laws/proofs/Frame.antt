@@ -18,7 +18,7 @@ use Rattle.hm_round_trip_laws.proofs.Ahead.{Ahead, Begins}
 
 -- a state with no comment after body or html
 abbrev pub here : InsertionMode → List Element → Bool → Construction
-here mode path drops = record { insertion_mode = mode; path = path; drops_line_feed = drops; behind_body = []; behind_html = [] }
+here mode path drops = record { insertion_mode = mode; path = path; drops_line_feed = drops; comments_after_body = []; comments_after_html = [] }
 
 -- something of this kind is first
 abbrev pub First : List Entry → (Ahead → Type 0) → List ℕ → Type 0

@@ -14,9 +14,9 @@ use Rattle.hm_token_laws.specs.First.{ordinary}
 use Rattle.hm_token_laws.specs.Written.{IsNext}
 use Rattle.hm_spelling_spec.specs.Tags.{Spelling, SpellsStart}
 use Rattle.hm_spelling_spec.specs.Omission.{end_falls}
-use Rattle.hm_spelling_spec.specs.Spellings.{Before, other, drops_first_line_feed, opening, StartForm, EndForm, StartSp, EndSp, TextSp, is_self_closing, behind_start, behind_end, left_out_before, SpellsFrom}
-use Rattle.hm_settle.specs.Moves.{element}
-use Rattle.hm_construction_laws.specs.Steps.{in_head, after_head, under_html, under_head, drops_behind}
+use Rattle.hm_spelling_spec.specs.Spellings.{Before, other, drops_first_line_feed, opening, StartForm, EndForm, StartSp, EndSp, TextSp, is_self_closing, after_start, after_end, left_out_before, SpellsFrom}
+use Rattle.hm_open_elements.specs.Moves.{element}
+use Rattle.hm_construction_laws.specs.Steps.{in_head, after_head, under_html, under_head, drops_after}
 use Rattle.hm_construction_laws.specs.Trees.{mode_of}
 use Rattle.hm_construction_laws.proofs.Modes.{is_mode}
 use Rattle.hm_construction_laws.proofs.Texts.{texts}
@@ -26,16 +26,16 @@ use Rattle.hm_round_trip_laws.proofs.Reading.{Builds, written}
 use Rattle.hm_round_trip_laws.proofs.Runs.{ran, run_of, run_bytes}
 use Rattle.hm_round_trip_laws.proofs.Ahead.{Sound, tag, any_front, unseen}
 use Rattle.hm_round_trip_laws.proofs.Frame.{here, First, frame_modes, frame_names, frame_not_void, start_omitted, end_omitted_is}
-use Rattle.hm_round_trip_laws.proofs.Behind.{not_absent}
+use Rattle.hm_round_trip_laws.proofs.LastEvents.{not_absent}
 use Rattle.hm_round_trip_laws.proofs.BodySteps.{stands_in, NoRoot, no_root}
 use Rattle.hm_round_trip_laws.proofs.Closing.{html_part, falls_goes, goes_holds}
 use Rattle.hm_round_trip_laws.proofs.Follow.{Fronted}
-use Rattle.hm_round_trip_laws.proofs.TreeTexts.{flag, flag_behind, run_kept, head_space}
+use Rattle.hm_round_trip_laws.proofs.TreeTexts.{flag, flag_after, run_kept, head_space}
 use Rattle.hm_round_trip_laws.proofs.TextElements.{flag_off, text_names, text_ends, element_text}
 use Rattle.hm_round_trip_laws.proofs.BodyTexts.{plain_path, plain_text}
 use Rattle.hm_round_trip_laws.proofs.BodyLaw.{markup_mode, end_is_next}
-use Rattle.hm_round_trip_laws.proofs.FrameFirst.{HeadFirst, head_child, end_head, behind_head, end_head_agrees}
-use Rattle.hm_round_trip_laws.proofs.BehindHead.{behind_head_first, behind_head_law}
+use Rattle.hm_round_trip_laws.proofs.FrameFirst.{HeadFirst, head_child, end_head, after_omitted_head, end_head_agrees}
+use Rattle.hm_round_trip_laws.proofs.AfterOmittedHead.{after_head_first, after_head_law}
 use Rattle.hm_round_trip_laws.proofs.InHead.{Outer, at_head, at_noscript, InHead, around, in_element, outer_is_plain, noscript_name, child_path, html_child, no_omitted_start, head_opens, void_entered, stays_entered, text_ended, noscript_ended, head_ended, comment_in_head, noscript_goes, noscript_facts}
 
 -- ---- The end of head, and of what stands in it
@@ -47,7 +47,7 @@ pub record EndsHead (g : Spelling) (before : Before) (w : List Event) (b : List 
   pub rest : List ℕ
   pub whole : b ≡ piece ++ rest
   pub spells : EndSp g before head false html_path w form piece
-  pub more : SpellsFrom g (behind_end head form) html_path w rest
+  pub more : SpellsFrom g (after_end head form) html_path w rest
   pub settled : SettledBeforeBody w
 
 ends_head : (g : Spelling) (before : Before) (m : List ℕ) (foreign : Bool) (w : List Event) (b : List ℕ) → SettledHead under_head (end m foreign ∷ w) → SpellsFrom g before under_head (end m foreign ∷ w) b → (m ≡ head) × (foreign ≡ false) × EndsHead g before w b
@@ -64,7 +64,7 @@ record EndsChild (g : Spelling) (before : Before) (n : List ℕ) (path : List El
   rest : List ℕ
   whole : b ≡ piece ++ rest
   spells : EndSp g before n false path w form piece
-  more : SpellsFrom g (behind_end n form) path w rest
+  more : SpellsFrom g (after_end n form) path w rest
   settled : SettledHead path w
 
 ends_child : (g : Spelling) (before : Before) (n : List ℕ) (path : List Element) (m : List ℕ) (foreign : Bool) (w : List Event) (b : List ℕ) → bytes_eq n head ≡ false → SettledHead (html_element n ∷ path) (end m foreign ∷ w) → SpellsFrom g before (html_element n ∷ path) (end m foreign ∷ w) b
@@ -83,12 +83,12 @@ head_falls : (parent : List ℕ) (w : List Event) → end_falls head parent w �
 unfolding end_falls
 head_falls parent w h = let two = and_parts (not (begins_text w)) (not (begins_comment w)) h in record { no_text = not-true _ two.0; no_comment = not-true _ two.1 }
 
-head_end_first : (g : Spelling) → PiecesAreNext g → (w : List Event) (b piece rest : List ℕ) (before : Before) (form : EndForm) → SettledBeforeBody w → is_self_closing before ≡ false → b ≡ piece ++ rest → EndSp g before head false html_path w form piece → SpellsFrom g (behind_end head form) html_path w rest → First g.table HeadFirst b
+head_end_first : (g : Spelling) → PiecesAreNext g → (w : List Event) (b piece rest : List ℕ) (before : Before) (form : EndForm) → SettledBeforeBody w → is_self_closing before ≡ false → b ≡ piece ++ rest → EndSp g before head false html_path w form piece → SpellsFrom g (after_end head form) html_path w rest → First g.table HeadFirst b
 head_end_first g next w b piece rest before EndForm.absent settled fresh e sp more = absurd (not_absent before head false fresh frame_not_void.1.0 sp.1)
 head_end_first g next w b piece rest before EndForm.omitted settled fresh e sp more =
     let f = head_falls html w (end_omitted_is g.rules head false html_path w sp.2).1 in
-    let (x, is, begins) = behind_head_first g next w rest (behind_end head EndForm.omitted) settled f.no_text f.no_comment more in
-    (x, behind_head is, rw (e, sp.0) begins)
+    let (x, is, begins) = after_head_first g next w rest (after_end head EndForm.omitted) settled f.no_text f.no_comment more in
+    (x, after_omitted_head is, rw (e, sp.0) begins)
 head_end_first g next w b piece rest before EndForm.written settled fresh e sp more = (tag (tokens.end_tag head), end_head, (rest, rw e (next.ends ordinary head piece rest refl frame_names.1.0 sp.1)))
 
 -- ---- What is first in head
@@ -179,7 +179,7 @@ void_case g (end m f ∷ w) laws n path b ins settled ends v inside sp =
     let (named, kind, i) = ends_child g opening n path m f w b inside settled sp in
     (w, rw (named, kind) refl, by i.form i.piece i.rest i.spells i.more i.settled i.whole)
   where
-    by : (k : EndForm) (piece rest : List ℕ) → EndSp g opening n false path w k piece → SpellsFrom g (behind_end n k) path w rest → SettledHead path w → b ≡ piece ++ rest → Builds g.table (here in_head path false) b w
+    by : (k : EndForm) (piece rest : List ℕ) → EndSp g opening n false path w k piece → SpellsFrom g (after_end n k) path w rest → SettledHead path w → b ≡ piece ++ rest → Builds g.table (here in_head path false) b w
     by EndForm.absent piece rest s more' settled' e = let cut : b ≡ rest = rw (e, s.0) refl in rw cut (law_of g w laws.1 path rest other ins settled' refl more')
     by EndForm.omitted piece rest s more' settled' e = absurd (both_ways (is_void n) s.1 v)
     by EndForm.written piece rest s more' settled' e = absurd (both_ways (is_void n) s.0 v)
@@ -203,12 +203,12 @@ written_start g sound next w laws n attributes slash path piece rest drops o all
         rw c.1 (written g.table ordinary (here in_head path drops) (here in_head path false) (start n false attributes ∷ end n false ∷ []) c.0 (piece ++ rest) 0 (tokens.start_tag n attributes slash) rest sound.names tt (outer_mode path o) read
         (head_opens n attributes slash path drops o h.stands h.known root ∙ void_entered n attributes path v) c.2)
     by false v =
-        written g.table ordinary (here in_head path drops) (here in_head (html_element n ∷ path) (drops_behind (html_element n ∷ path))) (start n false attributes ∷ []) w (piece ++ rest) 0 (tokens.start_tag n attributes slash) rest sound.names tt (outer_mode path o) read
+        written g.table ordinary (here in_head path drops) (here in_head (html_element n ∷ path) (drops_after (html_element n ∷ path))) (start n false attributes ∷ []) w (piece ++ rest) 0 (tokens.start_tag n attributes slash) rest sound.names tt (outer_mode path o) read
         (head_opens n attributes slash path drops o h.stands h.known root ∙ stays_entered n attributes path v)
-        (rw (flag_behind (html_element n) path) (law_of g w laws (html_element n ∷ path) rest opening (child_path n path o h.stands h.name v) settled refl more))
+        (rw (flag_after (html_element n) path) (law_of g w laws (html_element n ∷ path) rest opening (child_path n path o h.stands h.name v) settled refl more))
 
 start_case : (g : Spelling) → Sound g.table → PiecesAreNext g → (w : List Event) → HeadLaws g w → (n : List ℕ) (attributes : List Attribute) (path : List Element) (b piece rest : List ℕ) (before : Before) (drops : Bool) (form : StartForm) → Outer path → StartAllowed n false attributes path w → SettledHead (html_element n ∷ path) w
-    → b ≡ piece ++ rest → StartSp g before n false attributes w form piece rest → SpellsFrom g (behind_start false form) (html_element n ∷ path) w rest → Builds g.table (here in_head path drops) b (start n false attributes ∷ w)
+    → b ≡ piece ++ rest → StartSp g before n false attributes w form piece rest → SpellsFrom g (after_start false form) (html_element n ∷ path) w rest → Builds g.table (here in_head path drops) b (start n false attributes ∷ w)
 start_case g sound next w laws n attributes path b piece rest before drops StartForm.written o allowed settled e sp more = rw e (written_start g sound next w laws n attributes false path piece rest drops o allowed settled sp more)
 start_case g sound next w laws n attributes path b piece rest before drops StartForm.slashed o allowed settled e sp more = rw e (written_start g sound next w laws n attributes true path piece rest drops o allowed settled sp.1 more)
 start_case g sound next w laws n attributes path b piece rest before drops StartForm.omitted o allowed settled e sp more =
@@ -219,7 +219,7 @@ no_start : (n : List ℕ) (foreign : Bool) (m : List ℕ) (path : List Element) 
 no_start n foreign m path w t a = both_ways (holds_text m) (stands_in n (html_element m ∷ path) (html_part n foreign (html_element m ∷ path) w refl a).stands).1.0.no_text t
 
 text_end : (g : Spelling) → Sound g.table → PiecesAreNext g → (w : List Event) → HeadLaw g w → (n : List ℕ) (path : List Element) (b piece rest : List ℕ) (before : Before) (drops : Bool) (form : EndForm) → holds_text n ≡ true → is_tag_name n ≡ true → Outer path → SettledHead path w → is_self_closing before ≡ false
-    → b ≡ piece ++ rest → EndSp g before n false path w form piece → SpellsFrom g (behind_end n form) path w rest → Builds g.table (here in_head (html_element n ∷ path) drops) b (end n false ∷ w)
+    → b ≡ piece ++ rest → EndSp g before n false path w form piece → SpellsFrom g (after_end n form) path w rest → Builds g.table (here in_head (html_element n ∷ path) drops) b (end n false ∷ w)
 text_end g sound next w law n path b piece rest before drops EndForm.absent t named o settled fresh e sp more = absurd (not_absent before n false fresh (text_names n t).0 sp.1)
 text_end g sound next w law n path b piece rest before drops EndForm.omitted t named o settled fresh e sp more =
     let goes = falls_goes n (current path) w (no_root n (text_names n t).1) (end_omitted_is g.rules n false path w sp.2).1 in
@@ -229,7 +229,7 @@ text_end g sound next w law n path b piece rest before drops EndForm.written t n
     (end_is_next g next (html_element n) path piece rest named sp.1) (text_ended (html_element n) path drops t) (law path rest other (around path o) settled refl more))
 
 noscript_end : (g : Spelling) → Sound g.table → PiecesAreNext g → (w : List Event) → HeadLaw g w → (b piece rest : List ℕ) (before : Before) (drops : Bool) (form : EndForm) → SettledHead under_head w → is_self_closing before ≡ false
-    → b ≡ piece ++ rest → EndSp g before noscript false under_head w form piece → SpellsFrom g (behind_end noscript form) under_head w rest → Builds g.table (here in_head (html_element noscript ∷ under_head) drops) b (end noscript false ∷ w)
+    → b ≡ piece ++ rest → EndSp g before noscript false under_head w form piece → SpellsFrom g (after_end noscript form) under_head w rest → Builds g.table (here in_head (html_element noscript ∷ under_head) drops) b (end noscript false ∷ w)
 noscript_end g sound next w law b piece rest before drops EndForm.absent settled fresh e sp more = absurd (not_absent before noscript false fresh noscript_facts.1 sp.1)
 noscript_end g sound next w law b piece rest before drops EndForm.omitted settled fresh e sp more = absurd (noscript_goes w (falls_goes noscript head w (no_root noscript noscript_facts.0) (end_omitted_is g.rules noscript false under_head w sp.2).1))
 noscript_end g sound next w law b piece rest before drops EndForm.written settled fresh e sp more =
@@ -241,16 +241,16 @@ unfolding drops_first_line_feed is_among
 head_no_flag before = flag_off before under_head refl
 
 head_end : (g : Spelling) → Sound g.table → PiecesAreNext g → (w : List Event) (b piece rest : List ℕ) (before : Before) (form : EndForm) → SettledBeforeBody w → is_self_closing before ≡ false
-    → b ≡ piece ++ rest → EndSp g before head false html_path w form piece → SpellsFrom g (behind_end head form) html_path w rest → Builds g.table (here in_head under_head false) b (end head false ∷ w)
+    → b ≡ piece ++ rest → EndSp g before head false html_path w form piece → SpellsFrom g (after_end head form) html_path w rest → Builds g.table (here in_head under_head false) b (end head false ∷ w)
 head_end g sound next w b piece rest before EndForm.absent settled fresh e sp more = absurd (not_absent before head false fresh frame_not_void.1.0 sp.1)
 head_end g sound next w b piece rest before EndForm.omitted settled fresh e sp more =
     let f = head_falls html w (end_omitted_is g.rules head false html_path w sp.2).1 in
-    let (x, is, begins) = behind_head_first g next w rest (behind_end head EndForm.omitted) settled f.no_text f.no_comment more in
+    let (x, is, begins) = after_head_first g next w rest (after_end head EndForm.omitted) settled f.no_text f.no_comment more in
     let cut : b ≡ rest = rw (e, sp.0) refl in
-    rw cut (unseen g.table sound rest x (here in_head under_head false) (here after_head under_html false) (end head false ∷ []) w frame_modes.1.1.0 frame_modes.1.0 begins (end_head_agrees x is) (behind_head_law g sound next w rest (behind_end head EndForm.omitted) settled more))
+    rw cut (unseen g.table sound rest x (here in_head under_head false) (here after_head under_html false) (end head false ∷ []) w frame_modes.1.1.0 frame_modes.1.0 begins (end_head_agrees x is) (after_head_law g sound next w rest (after_end head EndForm.omitted) settled more))
 head_end g sound next w b piece rest before EndForm.written settled fresh e sp more =
     rw e (written g.table ordinary (here in_head under_head false) (here after_head under_html false) (end head false ∷ []) w (piece ++ rest) 0 (tokens.end_tag head) rest sound.names tt frame_modes.1.1.0
-    (next.ends ordinary head piece rest refl frame_names.1.0 sp.1).1 (head_ended false) (behind_head_law g sound next w rest other settled more))
+    (next.ends ordinary head piece rest refl frame_names.1.0 sp.1).1 (head_ended false) (after_head_law g sound next w rest other settled more))
 
 head_event : (g : Spelling) → Sound g.table → PiecesAreNext g → (e : Event) (w : List Event) → HeadLaws g w → HeadLaw g (e ∷ w)
 head_event g sound next (doctype legacy) w laws path b before ins settled fresh sp = absurd settled
@@ -262,7 +262,7 @@ head_event g sound next (start n foreign attributes) w laws path b before (aroun
     let allowed : StartAllowed n false attributes outer w = subst (λ (f : Bool). StartAllowed n f attributes outer w) kind settled.0 in
     let settled' : SettledHead (html_element n ∷ outer) w = subst (λ (f : Bool). SettledHead (element n f ∷ outer) w) kind settled.1 in
     let sp' : StartSp g before n false attributes w form piece rest = subst (λ (f : Bool). StartSp g before n f attributes w form piece rest) kind sp in
-    let more' : SpellsFrom g (behind_start false form) (html_element n ∷ outer) w rest = subst (λ (f : Bool). SpellsFrom g (behind_start f form) (element n f ∷ outer) w rest) kind more in
+    let more' : SpellsFrom g (after_start false form) (html_element n ∷ outer) w rest = subst (λ (f : Bool). SpellsFrom g (after_start f form) (element n f ∷ outer) w rest) kind more in
     rw kind (start_case g sound next w laws n attributes outer b piece rest before (flag before outer) form o allowed settled' e sp' more')
 head_event g sound next (end m foreign) w laws path b before (in_element n outer t named o) settled fresh sp =
     let (is, kind, i) = ends_child g before n outer m foreign w b (no_root n (text_names n t).1).no_head settled sp in

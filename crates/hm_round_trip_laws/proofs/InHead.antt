@@ -8,15 +8,15 @@ use Rattle.hm_base.specs.Walks.{Attribute, Event, doctype, start, text, comment,
 use Rattle.hm_elements.specs.Names.{words, is_among, head, noscript, svg, table}
 use Rattle.hm_elements.specs.Tables.{voids, is_void, is_refused, is_raw, raw_names, is_rcdata, rcdata_names, holds_text, blocks, headings, sections, roots, is_root}
 use Rattle.hm_elements.specs.Nesting.{children, noscript_children, may_stand}
-use Rattle.hm_elements.specs.Omission.{before_rows, goes_before, up_names, up_of_p, goes_up}
+use Rattle.hm_elements.specs.Omission.{before_rows, end_tag_optional_before, up_names, up_of_p, end_tag_optional_in}
 use Rattle.hm_elements.specs.Paths.{html_element, current, is_in_svg, is_in_text, is_in_blank, blank_parents, stands_on}
 use Rattle.hm_elements.specs.Places.{ElementAllowed}
 use Rattle.hm_elements.proofs.TableTools.{same_bytes, entry_passes, eq_self}
 use Rattle.hm_tree.specs.Tokens as tokens
 use Rattle.hm_spelling_spec.specs.Omission.{start_falls, end_goes}
-use Rattle.hm_construction_laws.specs.Steps.{in_head, after_head, went, under_html, under_head, drops_behind, entered, end_current, step, step_start, step_end}
+use Rattle.hm_construction_laws.specs.Steps.{in_head, after_head, went, under_html, under_head, drops_after, entered, end_current, step, step_start, step_end}
 use Rattle.hm_round_trip_laws.proofs.Frame.{here}
-use Rattle.hm_round_trip_laws.proofs.BehindHead.{stands_in_head}
+use Rattle.hm_round_trip_laws.proofs.AfterOmittedHead.{stands_in_head}
 use Rattle.hm_round_trip_laws.proofs.BodySteps.{stands_in, NoRoot}
 use Rattle.hm_round_trip_laws.proofs.Closing.{html_part, falls_child, child_in_table}
 
@@ -107,7 +107,7 @@ head_opens n attributes slash path drops at_noscript stands known root = let k =
 pub void_entered : (n : List ℕ) (attributes : List Attribute) (path : List Element) → is_void n ≡ true → entered attributes false (here in_head path false) (html_element n ∷ path) ≡ went (start n false attributes ∷ end n false ∷ []) (here in_head path false)
 void_entered n attributes path h = rw h refl
 
-pub stays_entered : (n : List ℕ) (attributes : List Attribute) (path : List Element) → is_void n ≡ false → entered attributes false (here in_head path false) (html_element n ∷ path) ≡ went (start n false attributes ∷ []) (here in_head (html_element n ∷ path) (drops_behind (html_element n ∷ path)))
+pub stays_entered : (n : List ℕ) (attributes : List Attribute) (path : List Element) → is_void n ≡ false → entered attributes false (here in_head path false) (html_element n ∷ path) ≡ went (start n false attributes ∷ []) (here in_head (html_element n ∷ path) (drops_after (html_element n ∷ path)))
 stays_entered n attributes path h = rw h refl
 
 -- ---- End tags
@@ -134,7 +134,7 @@ comment_in_head path drops s = refl
 -- ---- The end tag of noscript isn't left out
 
 pub noscript_goes : (w : List Event) → end_goes noscript head w ≡ true → ⊥
-unfolding goes_before before_rows goes_up up_names up_of_p blocks headings sections is_among
+unfolding end_tag_optional_before before_rows end_tag_optional_in up_names up_of_p blocks headings sections is_among
 noscript_goes [] h = cc
 noscript_goes (doctype legacy ∷ w) h = cc
 noscript_goes (text s raw ∷ w) h = cc

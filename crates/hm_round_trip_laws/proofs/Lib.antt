@@ -26,7 +26,7 @@ pub mod Reading
 pub mod Runs
 pub mod Ahead
 pub mod Frame
-pub mod Behind
+pub mod LastEvents
 pub mod BodySteps
 pub mod Closing
 pub mod Follow
@@ -35,7 +35,7 @@ pub mod TextElements
 pub mod BodyTexts
 pub mod BodyLaw
 pub mod FrameFirst
-pub mod BehindHead
+pub mod AfterOmittedHead
 pub mod InHead
 pub mod HeadLaw
 pub mod Page

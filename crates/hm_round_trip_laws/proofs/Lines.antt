@@ -5,9 +5,9 @@ use Rattle.std.proofs.lemmas.Bool.{and_parts, and_from}
 use Rattle.hm_base.specs.Bytes.{all_pass, head_is, is_space, is_alnum, is_letter, is_digit_of, is_null}
 use Rattle.hm_base.specs.Forms.{has_byte}
 use Rattle.hm_base.specs.Walks.{Attribute}
-use Rattle.hm_markup_spec.specs.Tags.{Form, bare, unquoted, double, single}
+use Rattle.hm_markup_spec.specs.Tags.{Quoting, bare, unquoted, double, single}
 use Rattle.hm_markup_spec.proofs.LineEnds.{newlines, is_no_return, IsInLine}
-use Rattle.hm_markup_spec.proofs.Readable.{ends_value, IsBehind}
+use Rattle.hm_markup_spec.proofs.Readable.{ends_value, MayFollowValue}
 use Rattle.hm_markup_spec.proofs.WrittenLines.{HasLines, assigned_lines, ValuesHaveLines}
 use Rattle.hm_refs.specs.Names.{Entry}
 use Rattle.hm_refs.specs.Tables.{IsTable}
@@ -87,8 +87,8 @@ some_written t value [] some read = subst (λ x. is_null x ≡ false) (sym read)
 some_written t value (c ∷ s) some read = refl
 
 bare_value_lines : (g : Spelling) (value b after : List ℕ) → IsTable g.table → is_utf8 value ≡ true → head_is ends_value after ≡ true → IsBareValue g value b after → HasLines (IsBareValue g value) b after
-bare_value_lines g value b after k u behind w =
-    let c = closed_by after behind in
+bare_value_lines g value b after k u follows w =
+    let c = closed_by after follows in
     let spells : SpellsText g.table (character_rules g) spots.unquoted value w.written (c.first ∷ c.more) = subst (SpellsText g.table (character_rules g) spots.unquoted value w.written) c.is w.spells in
     let read = value_read g.table (character_rules g) spots.unquoted value w.written c.first c.more k u c.ends spells in
     let bytes = within_by g.table (character_rules g) spots.unquoted is_bare (chars value) w.written after k (bare_allows g.rules.ascii) w.spells in
@@ -111,11 +111,11 @@ quoted_value_lines g spot quote value b after k feed return w =
       is = a.is;
     }
 
-value_lines : (g : Spelling) (form : Form) (value b after : List ℕ) → IsTable g.table → is_utf8 value ≡ true → IsBehind form after → SpellsValue g form value b after → HasLines (SpellsValue g form value) b after
-value_lines g bare value b after k u behind w = record { other = []; written = (w.0, refl); is = rw w.1 refl }
-value_lines g unquoted value b after k u behind w = bare_value_lines g value b after k u behind w
-value_lines g double value b after k u behind w = quoted_value_lines g spots.double 34 value b after k refl refl w
-value_lines g single value b after k u behind w = quoted_value_lines g spots.single 39 value b after k refl refl w
+value_lines : (g : Spelling) (form : Quoting) (value b after : List ℕ) → IsTable g.table → is_utf8 value ≡ true → MayFollowValue form after → SpellsValue g form value b after → HasLines (SpellsValue g form value) b after
+value_lines g bare value b after k u follows w = record { other = []; written = (w.0, refl); is = rw w.1 refl }
+value_lines g unquoted value b after k u follows w = bare_value_lines g value b after k u follows w
+value_lines g double value b after k u follows w = quoted_value_lines g spots.double 34 value b after k refl refl w
+value_lines g single value b after k u follows w = quoted_value_lines g spots.single 39 value b after k refl refl w
 
 pub values_have_lines : (g : Spelling) (attributes : List Attribute) → IsTable g.table → all_utf8 attributes ≡ true → ValuesHaveLines (SpellsValue g) attributes
-values_have_lines g attributes k u form a b after in_tag behind w = value_lines g form a.value b after k (values_utf8 attributes a u in_tag) behind w
+values_have_lines g attributes k u form a b after in_tag follows w = value_lines g form a.value b after k (values_utf8 attributes a u in_tag) follows w

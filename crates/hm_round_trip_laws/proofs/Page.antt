@@ -16,7 +16,7 @@ use Rattle.hm_round_trip_laws.proofs.Reading.{Builds, written}
 use Rattle.hm_round_trip_laws.proofs.Ahead.{Sound, tag, unseen}
 use Rattle.hm_round_trip_laws.proofs.Frame.{here, First, frame_modes, frame_names, start_omitted}
 use Rattle.hm_round_trip_laws.proofs.FrameFirst.{BeforeHeadFirst, start_head, head_left_out, head_agrees, html_agrees}
-use Rattle.hm_round_trip_laws.proofs.BehindHead.{starts_root}
+use Rattle.hm_round_trip_laws.proofs.AfterOmittedHead.{starts_root}
 use Rattle.hm_round_trip_laws.proofs.HeadLaw.{head_first, head_law}
 
 -- ---- The start of head

@@ -15,7 +15,7 @@ use Rattle.hm_markup_spec.specs.Doctypes.{WritesDoctype}
 use Rattle.hm_markup_spec.proofs.LineEnds.{newlines, is_no_return, newlines_plain, text_is_newlines, unmarked}
 use Rattle.hm_markup_spec.proofs.WrittenLines.{HasLines, AreNamed, start_lines, end_lines, doctype_lines}
 use Rattle.hm_refs.specs.Tables.{IsTable}
-use Rattle.hm_spelling_spec.specs.Spellings.{Before, other, behind_start, behind_end, TextSp, StartForm, StartSp, EndForm, EndSp, SpellsFrom}
+use Rattle.hm_spelling_spec.specs.Spellings.{Before, other, after_start, after_end, TextSp, StartForm, StartSp, EndForm, EndSp, SpellsFrom}
 use Rattle.hm_spelling_spec.specs.Tags.{Spelling, character_rules, SpellsStart}
 use Rattle.hm_token_laws.proofs.Bools.{or_parts}
 use Rattle.hm_round_trip_laws.specs.Pages.{IsClean, SettledSpellingsAreClean, SettledSpellingsHaveText}
@@ -48,9 +48,9 @@ clean_events g before path (doctype legacy ∷ w) b k (i, h) (piece, rest, is, d
 clean_events g before path (comment s ∷ w) b k (i, h) (rest, is, sp) = subst Clean (sym is) (clean_comment s rest (clean_text s i.no_zero i.utf8) (clean_events g other path w rest k h sp))
 clean_events g before path (text s raw ∷ w) b k (i, h) (piece, rest, is, t, sp) = subst Clean (sym is) (clean_both piece rest (clean_text_piece g before path s raw piece rest k i t) (clean_events g other path w rest k h sp))
 clean_events g before path (start n foreign attributes ∷ w) b k (i, h) (form, piece, rest, is, t, sp) =
-    subst Clean (sym is) (clean_both piece rest (clean_start_piece g before n foreign attributes w form piece rest k i t) (clean_events g (behind_start foreign form) (record { name = n; foreign = foreign } ∷ path) w rest k h sp))
+    subst Clean (sym is) (clean_both piece rest (clean_start_piece g before n foreign attributes w form piece rest k i t) (clean_events g (after_start foreign form) (record { name = n; foreign = foreign } ∷ path) w rest k h sp))
 clean_events g before path (end n foreign ∷ w) b k (i, h) (form, piece, rest, is, t, sp) =
-    subst Clean (sym is) (clean_both piece rest (clean_end_piece g before n foreign (outer path) w form piece i t) (clean_events g (behind_end n form) (outer path) w rest k h sp))
+    subst Clean (sym is) (clean_both piece rest (clean_end_piece g before n foreign (outer path) w form piece i t) (clean_events g (after_end n form) (outer path) w rest k h sp))
 
 no_zero_fails : is_no_zero 0 ≡ false
 unfolding is_no_zero
@@ -125,10 +125,10 @@ events_lines g before path (text s raw ∷ w) b k (i, h) (piece, rest, is, t, sp
     (l.other, newlines rest, ap newlines is ∙ l.is, l.written, events_lines g other path w rest k h sp)
 events_lines g before path (start n foreign attributes ∷ w) b k (i, h) (form, piece, rest, is, t, sp) =
     let l = start_piece_lines g before n foreign attributes w form piece rest k i t in
-    (form, l.other, newlines rest, ap newlines is ∙ l.is, l.written, events_lines g (behind_start foreign form) (record { name = n; foreign = foreign } ∷ path) w rest k h sp)
+    (form, l.other, newlines rest, ap newlines is ∙ l.is, l.written, events_lines g (after_start foreign form) (record { name = n; foreign = foreign } ∷ path) w rest k h sp)
 events_lines g before path (end n foreign ∷ w) b k (i, h) (form, piece, rest, is, t, sp) =
     let l = end_piece_lines g before n foreign (outer path) w form piece rest i t in
-    (form, l.other, newlines rest, ap newlines is ∙ l.is, l.written, events_lines g (behind_end n form) (outer path) w rest k h sp)
+    (form, l.other, newlines rest, ap newlines is ∙ l.is, l.written, events_lines g (after_end n form) (outer path) w rest k h sp)
 
 -- ---- the text of the page
 

@@ -4,7 +4,7 @@ use Rattle.hm_base.specs.Walks.{Event, pushes}
 use Rattle.hm_refs.specs.Names.{Entry}
 use Rattle.hm_tree.specs.Tokens.{Seen, Scanned, taken, refused}
 use Rattle.hm_tree.specs.Tokens as tokens
-use Rattle.hm_token_laws.specs.First.{Mode, Next, at_end, behind_bytes, first}
+use Rattle.hm_token_laws.specs.First.{Mode, Next, at_end, after_bytes, first}
 use Rattle.hm_token_laws.specs.Laws.{SoundNames, IsMode, least_size}
 use Rattle.hm_token_laws.proofs.Firsts.{tokens_are_small}
 use Rattle.hm_construction_laws.specs.Steps.{Construction, Stepped, went, stops, step, step_over}
@@ -48,7 +48,7 @@ same_step : (place : ℕ → ℕ) (at : ℕ) (o : Stepped) (f g : Construction �
 same_step place at (went es st) f g same = ap (after_events es) (same st)
 same_step place at (stops rule n) f g same = refl
 
-pub token_steps : (t : List Entry) (place : ℕ → ℕ) (at : ℕ) (mode : Mode) (s : List ℕ) (n : ℕ) (token : Seen) (rest : List ℕ) → SoundNames t → IsMode mode → first t mode s ≡ behind_bytes n (taken token rest) → (later : ℕ) × StepsToken t place at mode s n token rest later
+pub token_steps : (t : List Entry) (place : ℕ → ℕ) (at : ℕ) (mode : Mode) (s : List ℕ) (n : ℕ) (token : Seen) (rest : List ℕ) → SoundNames t → IsMode mode → first t mode s ≡ after_bytes n (taken token rest) → (later : ℕ) × StepsToken t place at mode s n token rest later
 token_steps t place at mode [] n token rest names m h = let less = shorter t mode [] n token rest names m h in absurd (omega arith)
 token_steps t place at mode (c ∷ s) n token rest names m h = (passed skip (at + 1) s, λ st e. reads st e)
   where
@@ -75,8 +75,8 @@ step_anywhere place place' at at' (stops rule n) f g w same h = cc
 
 next_anywhere : (place place' : ℕ → ℕ) (at at' : ℕ) (st : Construction) (s : List ℕ) (x : Next) (f g : ℕ → Construction → Outcome) (w : List Event) → ((k : ℕ) (next : Construction) (v : List Event) → f k next ≡ built v → g k next ≡ built v) → next_step place at st s x f ≡ built w → next_step place' at' st s x g ≡ built w
 next_anywhere place place' at at' st s at_end f g w same h = step_anywhere place place' (at + length s) (at' + length s) (step_over st) (λ next. built []) (λ next. built []) w (λ next v e. e) h
-next_anywhere place place' at at' st s (behind_bytes n (refused fault)) f g w same h = cc
-next_anywhere place place' at at' st s (behind_bytes n (taken token rest)) f g w same h = step_anywhere place place' (at + n) (at' + n) (step st token) (f (pred (length s - length rest))) (g (pred (length s - length rest))) w (same (pred (length s - length rest))) h
+next_anywhere place place' at at' st s (after_bytes n (refused fault)) f g w same h = cc
+next_anywhere place place' at at' st s (after_bytes n (taken token rest)) f g w same h = step_anywhere place place' (at + n) (at' + n) (step st token) (f (pred (length s - length rest))) (g (pred (length s - length rest))) w (same (pred (length s - length rest))) h
 
 pub anywhere : (t : List Entry) (place place' : ℕ → ℕ) (s : List ℕ) (skip at at' : ℕ) (st : Construction) (w : List Event) → tree_from t place skip at st s ≡ built w → tree_from t place' skip at' st s ≡ built w
 anywhere t place place' [] zero at at' st w h = step_anywhere place place' at at' (step_over st) (λ next. built []) (λ next. built []) w (λ next v e. e) h
@@ -90,7 +90,7 @@ anywhere t place place' (c ∷ s) zero at at' st w h =
 
 -- it makes its events
 pub written : (t : List Entry) (mode : Mode) (st next : Construction) (es : List Event) (w : List Event) (b : List ℕ) (n : ℕ) (token : Seen) (rest : List ℕ) → SoundNames t → IsMode mode → mode_of st.path ≡ mode
-    → first t mode b ≡ behind_bytes n (taken token rest) → step st token ≡ went es next → Builds t next rest w → Builds t st b (pushes es w)
+    → first t mode b ≡ after_bytes n (taken token rest) → step st token ≡ went es next → Builds t next rest w → Builds t st b (pushes es w)
 written t mode st next es w b n token rest names m e h goes more place at =
     let k = token_steps t place at mode b n token rest names m h in
     k.1 st e ∙ ap (λ o. stepped place (at + n) o (λ next'. tree_from t place 0 k.0 next' rest)) goes ∙ ap (after_events es) (more place k.0)

@@ -2,14 +2,14 @@
 use Rattle.std.proofs.Common.{◌≡◌, ℕ, suc, ◌+◌, ◌≤◌, Bool, true, false, cond, ◌&&◌, ◌||◌, ◌==◌, nat_lt, ◌<◌, inl, inr, List, [], ◌∷◌, ◌++◌, length, Option, Some, None, refl, ap, sym, subst, ◌∙◌, arith, append_assoc, length-append}
 use Rattle.std.proofs.lemmas.Bool.{and_parts, and_from, eqb-true, cases_lt}
 use Rattle.std.specs.Char.{digit_value}
-use Rattle.hm_base.specs.Bytes.{front, behind, all_pass, is_null, is_digit_of, is_alnum, is_letter}
+use Rattle.hm_base.specs.Bytes.{front, rest_after, all_pass, is_null, is_digit_of, is_alnum, is_letter}
 use Rattle.hm_refs.specs.Laws.{IsLongest}
 use Rattle.hm_refs.specs.Names.{Entry, Found, longest, is_good, is_tail}
 use Rattle.hm_refs.specs.Numbers.{point_of}
 use Rattle.hm_refs.specs.References.{Reference, value_of, numeric, decimal_number, hexadecimal, hash, is_blocked, named, reference_by, reference}
 use Rattle.hm_refs.specs.Tables.{IsTable}
 use Rattle.hm_refs.proofs.Found.{longest_is_longest, good_of}
-use Rattle.hm_token_laws.proofs.Plain.{front_and_behind, front_passes, pass_both}
+use Rattle.hm_token_laws.proofs.Plain.{front_and_rest, front_passes, pass_both}
 use Rattle.hm_round_trip_laws.specs.References.{is_reference_byte, TakesFew, ReferencesTakeFewBytes}
 
 -- ---- numbers
@@ -98,9 +98,9 @@ digits_few base (c ∷ s) h d =
 
 -- these bytes stand before the digits, after '&'
 number_few : (before : List ℕ) (base : ℕ) (s : List ℕ) (r : Reference) → base ≤ 16 → all_pass is_reference_byte before ≡ true
-    → numeric (suc (length before)) base (front (is_digit_of base) s) (behind (is_digit_of base) s) ≡ Some r → TakesFew (38 ∷ (before ++ s)) r
+    → numeric (suc (length before)) base (front (is_digit_of base) s) (rest_after (is_digit_of base) s) ≡ Some r → TakesFew (38 ∷ (before ++ s)) r
 number_few before base s r low few h =
-    by_digits (front (is_digit_of base) s) (behind (is_digit_of base) s) (front_and_behind (is_digit_of base) s) (digits_few base (front (is_digit_of base) s) low (front_passes (is_digit_of base) s)) h
+    by_digits (front (is_digit_of base) s) (rest_after (is_digit_of base) s) (front_and_rest (is_digit_of base) s) (digits_few base (front (is_digit_of base) s) low (front_passes (is_digit_of base) s)) h
   where
     short : (ds rest : List ℕ) → s ≡ ds ++ rest → all_pass is_reference_byte ds ≡ true → (n : ℕ) → n ≡ suc (length before) + length ds → r.len ≡ n → TakesFew (38 ∷ (before ++ s)) r
     short ds rest e a n m is = record {

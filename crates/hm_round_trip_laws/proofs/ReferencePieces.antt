@@ -10,7 +10,7 @@ use Rattle.hm_round_trip_laws.proofs.ReferenceBytes.{references_take_few_bytes}
 
 -- b is a reference that gives these code points, before what follows
 abbrev pub Refers : List Entry → Spot → List ℕ → List ℕ → List ℕ → Type 0
-Refers t spot qs b behind = reference t (is_value spot) (b ++ behind) ≡ Some (record { points = qs; len = length b })
+Refers t spot qs b after = reference t (is_value spot) (b ++ after) ≡ Some (record { points = qs; len = length b })
 
 pub record AmpPiece (b : List ℕ) : Type 0 where
   pub inner : List ℕ
@@ -24,7 +24,7 @@ same_front [] x (i ∷ inner) rest e l = absurd (omega arith)
 same_front (c ∷ b) x [] rest e l = absurd (omega arith)
 same_front (c ∷ b) x (i ∷ inner) rest e l = let first : c ≡ i = cc in let more : b ++ x ≡ inner ++ rest = cc in rw (first, same_front b x inner rest more (omega arith)) refl
 
-pub amp_piece : (t : List Entry) (spot : Spot) (qs b behind : List ℕ) → IsTable t → Refers t spot qs b behind → AmpPiece b
-amp_piece t spot qs b behind k r =
-    let f : TakesFew (b ++ behind) (record { points = qs; len = length b }) = references_take_few_bytes t (is_value spot) (b ++ behind) (record { points = qs; len = length b }) k r in
-    record { inner = f.inner; is = same_front b behind (38 ∷ f.inner) f.rest f.is f.len; few = f.few }
+pub amp_piece : (t : List Entry) (spot : Spot) (qs b after : List ℕ) → IsTable t → Refers t spot qs b after → AmpPiece b
+amp_piece t spot qs b after k r =
+    let f : TakesFew (b ++ after) (record { points = qs; len = length b }) = references_take_few_bytes t (is_value spot) (b ++ after) (record { points = qs; len = length b }) k r in
+    record { inner = f.inner; is = same_front b after (38 ∷ f.inner) f.rest f.is f.len; few = f.few }

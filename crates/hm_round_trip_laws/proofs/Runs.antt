@@ -10,7 +10,7 @@ use Rattle.hm_token_laws.specs.First.{Mode}
 use Rattle.hm_token_laws.specs.Laws.{SoundNames, IsMode}
 use Rattle.hm_token_laws.specs.Readings.{ReadsAs}
 use Rattle.hm_token_laws.specs.Decided.{in_mode, texts_of, are_texts, is_text}
-use Rattle.hm_construction_laws.specs.Steps.{Construction, Stepped, went, stops, behind_events, behind_bytes, then_step, at_front, step_byte, step_bytes, step}
+use Rattle.hm_construction_laws.specs.Steps.{Construction, Stepped, went, stops, stepped_after_events, after_bytes, then_step, at_front, step_byte, step_bytes, step}
 use Rattle.hm_construction_laws.specs.Trees.{Outcome, refused_by, after_events, mode_of, stepped, tree_from}
 use Rattle.hm_round_trip_laws.proofs.Reading.{after_none, after_after, token_steps}
 
@@ -19,12 +19,12 @@ pub data Run : Type 0 where
   ran : List Event → Construction → Run
   halted : Run
 
-abbrev pub behind_run : List Event → Run → Run
-behind_run es (ran fs st) = ran (es ++ fs) st
-behind_run es halted = halted
+abbrev pub after_run : List Event → Run → Run
+after_run es (ran fs st) = ran (es ++ fs) st
+after_run es halted = halted
 
 abbrev pub then_run : Run → (Construction → Run) → Run
-then_run (ran es st) more = behind_run es (more st)
+then_run (ran es st) more = after_run es (more st)
 then_run halted more = halted
 
 abbrev pub run_of : Stepped → Run
@@ -35,7 +35,7 @@ abbrev pub run_bytes : List ℕ → Construction → Run
 run_bytes [] st = ran [] st
 run_bytes (c ∷ s) st = then_run (run_of (step_byte c st)) (run_bytes s)
 
-run_later : (es : List Event) (n : ℕ) (o : Stepped) → run_of (behind_events es (behind_bytes n o)) ≡ behind_run es (run_of o)
+run_later : (es : List Event) (n : ℕ) (o : Stepped) → run_of (stepped_after_events es (after_bytes n o)) ≡ after_run es (run_of o)
 run_later es n (went fs st) = refl
 run_later es n (stops rule k) = refl
 
@@ -43,19 +43,19 @@ pub bytes_run : (s : List ℕ) (st : Construction) → run_of (step_bytes s st) 
 bytes_run [] st = refl
 bytes_run (c ∷ s) st = by (step_byte c st) (bytes_run s)
   where
-    by : (o : Stepped) → ((next : Construction) → run_of (step_bytes s next) ≡ run_bytes s next) → run_of (then_step o (λ next. behind_bytes 1 (step_bytes s next))) ≡ then_run (run_of o) (run_bytes s)
-    by (went es next) more = run_later es 1 (step_bytes s next) ∙ ap (behind_run es) (more next)
+    by : (o : Stepped) → ((next : Construction) → run_of (step_bytes s next) ≡ run_bytes s next) → run_of (then_step o (λ next. after_bytes 1 (step_bytes s next))) ≡ then_run (run_of o) (run_bytes s)
+    by (went es next) more = run_later es 1 (step_bytes s next) ∙ ap (after_run es) (more next)
     by (stops rule n) more = refl
 
-run_none : (r : Run) → behind_run [] r ≡ r
+run_none : (r : Run) → after_run [] r ≡ r
 run_none (ran es st) = refl
 run_none halted = refl
 
-run_twice : (es fs : List Event) (r : Run) → behind_run (es ++ fs) r ≡ behind_run es (behind_run fs r)
+run_twice : (es fs : List Event) (r : Run) → after_run (es ++ fs) r ≡ after_run es (after_run fs r)
 run_twice es fs (ran gs st) = ap (λ x. ran x st) (append_assoc es fs gs)
 run_twice es fs halted = refl
 
-then_later : (es : List Event) (r : Run) (f : Construction → Run) → then_run (behind_run es r) f ≡ behind_run es (then_run r f)
+then_later : (es : List Event) (r : Run) (f : Construction → Run) → then_run (after_run es r) f ≡ after_run es (then_run r f)
 then_later es (ran fs st) f = run_twice es fs (f st)
 then_later es halted f = refl
 
@@ -64,7 +64,7 @@ run_append [] y st = sym (run_none (run_bytes y st))
 run_append (c ∷ x) y st = by (run_of (step_byte c st)) (run_append x y)
   where
     by : (r : Run) → ((next : Construction) → run_bytes (x ++ y) next ≡ then_run (run_bytes x next) (run_bytes y)) → then_run r (run_bytes (x ++ y)) ≡ then_run (then_run r (run_bytes x)) (run_bytes y)
-    by (ran es next) more = ap (behind_run es) (more next) ∙ sym (then_later es (run_bytes x next) (run_bytes y))
+    by (ran es next) more = ap (after_run es) (more next) ∙ sym (then_later es (run_bytes x next) (run_bytes y))
     by halted more = refl
 
 -- ---- Trees after a run
@@ -78,7 +78,7 @@ step_reached : (place : ℕ → ℕ) (at : ℕ) (o : Stepped) (more : Constructi
 step_reached place at (went es st) more = refl
 step_reached place at (stops rule n) more = (rule, place (at + n), refl)
 
-inner_reached : (es : List Event) (tree inner : Outcome) (more : Construction → Outcome) (r : Run) → tree ≡ after_events es inner → Reached inner more r → Reached tree more (behind_run es r)
+inner_reached : (es : List Event) (tree inner : Outcome) (more : Construction → Outcome) (r : Run) → tree ≡ after_events es inner → Reached inner more r → Reached tree more (after_run es r)
 inner_reached es tree inner more (ran fs st) e h = e ∙ ap (after_events es) h ∙ sym (after_after es fs (more st))
 inner_reached es tree inner more halted e (rule, at, h) = (rule, at, e ∙ ap (after_events es) h)
 
@@ -97,7 +97,7 @@ Keeps P = (c : ℕ) (st : Construction) → P st → Holds P (run_of (step_byte 
 then_holds : (P : Construction → Type 0) (r : Run) (f : Construction → Run) → ((st : Construction) → P st → Holds P (f st)) → Holds P r → Holds P (then_run r f)
 then_holds P (ran es st) f more p = by (f st) (more st p)
   where
-    by : (r : Run) → Holds P r → Holds P (behind_run es r)
+    by : (r : Run) → Holds P r → Holds P (after_run es r)
     by (ran fs next) h = h
     by halted h = tt
 then_holds P halted f more p = tt

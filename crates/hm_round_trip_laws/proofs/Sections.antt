@@ -13,7 +13,7 @@ use Rattle.hm_scan.specs.Comments.{begins, begins_cdata, read_cdata}
 use Rattle.hm_scan.specs.Doctypes.{begins_doctype}
 use Rattle.hm_scan.proofs.Cuts.{strip_whole}
 use Rattle.hm_scan.proofs.Searches.{begins_not}
-use Rattle.hm_token_laws.specs.First.{in_svg, behind_bytes, first}
+use Rattle.hm_token_laws.specs.First.{in_svg, after_bytes, first}
 use Rattle.hm_token_laws.proofs.Bools.{or_parts}
 use Rattle.hm_tree.specs.Tokens.{taken, slice}
 use Rattle.hm_round_trip_laws.proofs.Encoded.{encode_passes}
@@ -53,9 +53,9 @@ found_same (a ∷ m) (c ∷ cs) h = by_size (cases_lt c 128) (found_same m cs (a
         let none : is_found (strip (a ∷ m) (c ∷ cs)) ≡ false = rw (not_same a c l (grind arith)) refl in
         none_high a m (encode c) (encode_utf8_all cs) l (some_bytes c) (encode_high c g) ∙ sym none
 
-mark_behind : (a : ℕ) (m ds s : List ℕ) → low a ≡ true → all_pass high ds ≡ true → has_mark (a ∷ m) (ds ++ s) ≡ has_mark (a ∷ m) s
-mark_behind a m [] s h all = refl
-mark_behind a m (d ∷ ds) s h all = let both = and_parts (high d) (all_pass high ds) all in rw (not_same a d h both.0) (mark_behind a m ds s h both.1)
+mark_after : (a : ℕ) (m ds s : List ℕ) → low a ≡ true → all_pass high ds ≡ true → has_mark (a ∷ m) (ds ++ s) ≡ has_mark (a ∷ m) s
+mark_after a m [] s h all = refl
+mark_after a m (d ∷ ds) s h all = let both = and_parts (high d) (all_pass high ds) all in rw (not_same a d h both.0) (mark_after a m ds s h both.1)
 
 mark_same : (a : ℕ) (m cs : List ℕ) → all_pass low (a ∷ m) ≡ true → has_mark (a ∷ m) (encode_utf8_all cs) ≡ has_mark (a ∷ m) cs
 mark_same a m [] h = refl
@@ -68,7 +68,7 @@ mark_same a m (c ∷ cs) h = by_size (cases_lt c 128) (mark_same a m cs h)
         rw one (ap (λ x. x || has_mark (a ∷ m) (encode_utf8_all cs)) found ∙ ap (λ x. is_found (strip (a ∷ m) (c ∷ cs)) || x) more)
     by_size (inr g) more =
         let l = (and_parts (low a) (all_pass low m) h).0 in
-        rw (not_same a c l (grind arith)) (mark_behind a m (encode c) (encode_utf8_all cs) l (encode_high c g) ∙ more)
+        rw (not_same a c l (grind arith)) (mark_after a m (encode c) (encode_utf8_all cs) l (encode_high c g) ∙ more)
 
 pub section_unended : (cs : List ℕ) → has_mark (codes "]]>") cs ≡ false → has_mark (codes "]]>") (encode_utf8_all cs) ≡ false
 section_unended cs h = mark_same 93 (93 ∷ 62 ∷ []) cs refl ∙ h
@@ -86,14 +86,14 @@ no_end_before c (d ∷ []) rest e = by_tests (93 == c) (93 == d)
 no_end_before c (d ∷ g ∷ s) rest e =
     strip_whole (codes "]]>") (c ∷ d ∷ g ∷ s) (codes "]]>" ++ rest) (omega arith) ∙ ap (option_map (λ r. r ++ (codes "]]>" ++ rest))) (begins_not (codes "]]>") (c ∷ d ∷ g ∷ s) e)
 
-section_cut : (s rest : List ℕ) → has_mark (codes "]]>") s ≡ false → cut_at (codes "]]>") (s ++ (codes "]]>" ++ rest)) ≡ Some (record { before = s; behind = rest })
+section_cut : (s rest : List ℕ) → has_mark (codes "]]>") s ≡ false → cut_at (codes "]]>") (s ++ (codes "]]>" ++ rest)) ≡ Some (record { before = s; after = rest })
 section_cut [] rest e = refl
 section_cut (c ∷ s) rest e =
     let p = or_parts (begins (codes "]]>") (c ∷ s)) (has_mark (codes "]]>") s) e in
     rw (no_end_before c s rest p.0, section_cut s rest p.1) refl
 
 -- A section that doesn't hold its own end is the next token, whatever follows it.
-pub section_next : (t : List Entry) (s rest : List ℕ) → has_mark (codes "]]>") s ≡ false → first t in_svg (codes "<![CDATA[" ++ (s ++ (codes "]]>" ++ rest))) ≡ behind_bytes 0 (taken (slice s) rest)
+pub section_next : (t : List Entry) (s rest : List ℕ) → has_mark (codes "]]>") s ≡ false → first t in_svg (codes "<![CDATA[" ++ (s ++ (codes "]]>" ++ rest))) ≡ after_bytes 0 (taken (slice s) rest)
 unfolding first begins_markup is_letter begins_tag begins_doctype lower begins_cdata read_cdata
 section_next t s rest e = rw (section_cut s rest e) refl
 

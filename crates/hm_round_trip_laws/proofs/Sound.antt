@@ -6,7 +6,7 @@ use Rattle.hm_base.specs.Bytes.{is_digit_of}
 use Rattle.hm_base.specs.Walks.{Attribute, Event, doctype, start, text, comment, end, Element}
 use Rattle.hm_elements.specs.Names.{html, head, body}
 use Rattle.hm_elements.specs.Paths.{html_element}
-use Rattle.hm_elements.specs.Places.{AttributesAllowed, ElementAllowed, RootAllowed, TextAllowed, CommentAllowed, one_of_two, html_path, SettledLast, SettledBehindBody, SettledInside, SettledBeforeBody, SettledBeforeHead, SettledBeforeHtml, SettledPage}
+use Rattle.hm_elements.specs.Places.{AttributesAllowed, ElementAllowed, RootAllowed, TextAllowed, CommentAllowed, one_of_two, html_path, SettledLast, SettledAfterBody, SettledInside, SettledBeforeBody, SettledBeforeHead, SettledBeforeHtml, SettledPage}
 use Rattle.hm_elements.specs.Settled.{Settled, is_html}
 use Rattle.hm_elements.proofs.Chain.{settled_page}
 use Rattle.hm_elements.proofs.NameFacts.{svg_name_is_tag_name}
@@ -61,13 +61,13 @@ last_sound (start n foreign attributes ∷ w) h = absurd h
 last_sound (text s raw ∷ w) h = absurd h
 last_sound (end n foreign ∷ w) h = absurd h
 
-behind_body_sound : (w : List Event) → SettledBehindBody w → AreSound w
-behind_body_sound [] h = absurd h
-behind_body_sound (comment s ∷ w) (c, h) = (sound_comment html_path s c, behind_body_sound w h)
-behind_body_sound (doctype legacy ∷ w) h = absurd h
-behind_body_sound (start n foreign attributes ∷ w) h = absurd h
-behind_body_sound (text s raw ∷ w) h = absurd h
-behind_body_sound (end n foreign ∷ w) (is, kind, h) = (subst (λ x. is_tag_name x ≡ true) (sym is) root_names.0, last_sound w h)
+after_body_sound : (w : List Event) → SettledAfterBody w → AreSound w
+after_body_sound [] h = absurd h
+after_body_sound (comment s ∷ w) (c, h) = (sound_comment html_path s c, after_body_sound w h)
+after_body_sound (doctype legacy ∷ w) h = absurd h
+after_body_sound (start n foreign attributes ∷ w) h = absurd h
+after_body_sound (text s raw ∷ w) h = absurd h
+after_body_sound (end n foreign ∷ w) (is, kind, h) = (subst (λ x. is_tag_name x ≡ true) (sym is) root_names.0, last_sound w h)
 
 abbrev AreNamed : List Element → Type 0
 AreNamed [] = Unit {0}
@@ -94,7 +94,7 @@ before_body_sound [] h = absurd h
 before_body_sound (text s raw ∷ w) (a, blank, h) = (sound_text html_path s raw w a, before_body_sound w h)
 before_body_sound (comment s ∷ w) (c, h) = (sound_comment html_path s c, before_body_sound w h)
 before_body_sound (start n foreign attributes ∷ w) (a, h) =
-    (sound_root body n foreign attributes root_names.2 a, inside_sound body SettledBehindBody (html_element body ∷ html_path) w behind_body_sound (root_names.2, (root_names.0, tt)) h)
+    (sound_root body n foreign attributes root_names.2 a, inside_sound body SettledAfterBody (html_element body ∷ html_path) w after_body_sound (root_names.2, (root_names.0, tt)) h)
 before_body_sound (doctype legacy ∷ w) h = absurd h
 before_body_sound (end n foreign ∷ w) h = absurd h
 

@@ -56,8 +56,8 @@ module _ (t : List Entry) (table : IsTable t) (after : List ℕ) where
   }
 
   -- what follows one more piece of the run
-  behind : (b text : List ℕ) (r : Run t b after text) → b ++ after ≡ r.front ++ (r.rest ++ after)
-  behind b text r = ap (λ x. x ++ after) r.is ∙ append_assoc r.front r.rest after
+  following : (b text : List ℕ) (r : Run t b after text) → b ++ after ≡ r.front ++ (r.rest ++ after)
+  following b text r = ap (λ x. x ++ after) r.is ∙ append_assoc r.front r.rest after
 
   run_itself : (c : ℕ) (b text : List ℕ) → stays t foreign c (b ++ after) ≡ true → Run t b after text → Run t (encode c ++ b) after (encode c ++ text)
   run_itself c b text kept r = record {
@@ -67,7 +67,7 @@ module _ (t : List Entry) (table : IsTable t) (after : List ℕ) where
     rest_text = r.rest_text;
     is = ap (λ x. encode c ++ x) r.is ∙ sym (append_assoc (encode c) r.front r.rest);
     means = append_assoc (encode c) r.front_text r.rest_text ∙ ap (λ x. encode c ++ x) r.means;
-    pieces = with_itself t foreign false c r.front_text r.front (r.rest ++ after) svg_spot (subst (λ x. stays t foreign c x ≡ true) (behind b text r) kept) r.pieces;
+    pieces = with_itself t foreign false c r.front_text r.front (r.rest ++ after) svg_spot (subst (λ x. stays t foreign c x ≡ true) (following b text r) kept) r.pieces;
     ended = r.ended;
     reads = r.reads;
   }
@@ -80,7 +80,7 @@ module _ (t : List Entry) (table : IsTable t) (after : List ℕ) where
     rest_text = r.rest_text;
     is = ap (λ x. a ++ x) r.is ∙ sym (append_assoc a r.front r.rest);
     means = append_assoc (encode_utf8_all qs) r.front_text r.rest_text ∙ ap (λ x. encode_utf8_all qs ++ x) r.means;
-    pieces = with_reference t foreign false qs a r.front_text r.front (r.rest ++ after) table svg_spot (subst (λ x. Refers t foreign qs a x) (behind b text r) h) r.pieces;
+    pieces = with_reference t foreign false qs a r.front_text r.front (r.rest ++ after) table svg_spot (subst (λ x. Refers t foreign qs a x) (following b text r) h) r.pieces;
     ended = r.ended;
     reads = r.reads;
   }

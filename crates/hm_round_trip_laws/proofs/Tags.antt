@@ -7,8 +7,8 @@ use Rattle.hm_base.specs.Forms.{is_attribute_name}
 use Rattle.hm_base.specs.Walks.{Attribute}
 use Rattle.hm_elements.specs.Places.{AttributesAllowed}
 use Rattle.hm_elements.specs.Settled.{all_names_in_form, all_utf8}
-use Rattle.hm_markup_spec.specs.Tags.{Form, bare, unquoted, double, single}
-use Rattle.hm_markup_spec.proofs.Readable.{ends_value, IsBehind, ValuesCarry, start_is_readable, doctype_is_readable}
+use Rattle.hm_markup_spec.specs.Tags.{Quoting, bare, unquoted, double, single}
+use Rattle.hm_markup_spec.proofs.Readable.{ends_value, MayFollowValue, ValuesCarry, start_is_readable, doctype_is_readable}
 use Rattle.hm_refs.specs.Names.{Entry}
 use Rattle.hm_refs.specs.Tables.{IsTable}
 use Rattle.hm_scan.specs.ReadBack.{is_unquoted, WritesValue, are_attribute_names, IsAttributes}
@@ -59,21 +59,21 @@ unfolding is_unquoted
 some_unquoted t value [] some read bytes = absurd (let none : is_null [] ≡ false = subst (λ x. is_null x ≡ false) (sym read) some in cc)
 some_unquoted t value (c ∷ s) some read bytes = and_from (not (is_quote c)) (all_pass is_unquoted_byte (c ∷ s)) (bare_quote c (and_parts (is_bare c) (all_pass is_bare s) bytes).0) (all_unquoted (c ∷ s) bytes)
 
-value_carries : (g : Spelling) → IsTable g.table → (form : Form) (value b after : List ℕ) → is_utf8 value ≡ true → IsBehind form after → SpellsValue g form value b after → WritesValue g.table form value b after
-value_carries g k bare value b after u behind w = w
-value_carries g k unquoted value b after u behind w =
-    let c = closed_by after behind in
+value_carries : (g : Spelling) → IsTable g.table → (form : Quoting) (value b after : List ℕ) → is_utf8 value ≡ true → MayFollowValue form after → SpellsValue g form value b after → WritesValue g.table form value b after
+value_carries g k bare value b after u follows w = w
+value_carries g k unquoted value b after u follows w =
+    let c = closed_by after follows in
     let spells : SpellsText g.table (character_rules g) spots.unquoted value w.written (c.first ∷ c.more) = subst (SpellsText g.table (character_rules g) spots.unquoted value w.written) c.is w.spells in
     let read = value_read g.table (character_rules g) spots.unquoted value w.written c.first c.more k u c.ends spells in
     let bytes = within_by g.table (character_rules g) spots.unquoted is_bare _ w.written after k (bare_allows g.rules.ascii) w.spells in
     record { written = w.written; is = w.is; good = some_unquoted g.table value w.written w.some read bytes; read = read }
-value_carries g k double value b after u behind w = record {
+value_carries g k double value b after u follows w = record {
   written = w.written;
   is = w.is;
   inside = value_within g.table (character_rules g) spots.double _ w.written (34 ∷ after) k w.spells;
   read = value_read g.table (character_rules g) spots.double value w.written 34 after k u refl w.spells;
 }
-value_carries g k single value b after u behind w = record {
+value_carries g k single value b after u follows w = record {
   written = w.written;
   is = w.is;
   inside = value_within g.table (character_rules g) spots.single _ w.written (39 ∷ after) k w.spells;
@@ -81,7 +81,7 @@ value_carries g k single value b after u behind w = record {
 }
 
 values_carry : (g : Spelling) (attributes : List Attribute) → IsTable g.table → all_utf8 attributes ≡ true → ValuesCarry (SpellsValue g) (WritesValue g.table) attributes
-values_carry g attributes k u form a b after in_tag behind w = value_carries g k form a.value b after (values_utf8 attributes a u in_tag) behind w
+values_carry g attributes k u form a b after in_tag follows w = value_carries g k form a.value b after (values_utf8 attributes a u in_tag) follows w
 
 -- ---- tags and doctypes
 

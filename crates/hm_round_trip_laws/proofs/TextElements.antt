@@ -31,10 +31,10 @@ use Rattle.hm_round_trip_laws.proofs.Reading.{Builds}
 use Rattle.hm_round_trip_laws.proofs.Runs.{ran, run_of, run_bytes, Holds, Keeps, Reads}
 use Rattle.hm_round_trip_laws.proofs.Ahead.{Sound, text_alone}
 use Rattle.hm_round_trip_laws.proofs.Frame.{here, end_omitted_is}
-use Rattle.hm_round_trip_laws.proofs.Behind.{not_absent}
+use Rattle.hm_round_trip_laws.proofs.LastEvents.{not_absent}
 use Rattle.hm_round_trip_laws.proofs.BodySteps.{no_root, stands_in}
 use Rattle.hm_round_trip_laws.proofs.Closing.{falls_goes, goes_holds}
-use Rattle.hm_round_trip_laws.proofs.TreeTexts.{flag, flag_behind, read_text, run_kept, any_byte, all_any, run_read, text_byte, one_text}
+use Rattle.hm_round_trip_laws.proofs.TreeTexts.{flag, flag_after, read_text, run_kept, any_byte, all_any, run_read, text_byte, one_text}
 
 -- ---- Their names
 
@@ -124,7 +124,7 @@ flag_off before path h = rw h (by (is_opening before))
     by false = refl
 
 raw_flag : (before : Before) (d : Element) (path : List Element) → is_in_raw (d ∷ path) ≡ true → flag before (d ∷ path) ≡ false
-raw_flag before d path r = flag_off before (d ∷ path) (sym (flag_behind d path) ∙ raw_keeps (d ∷ path) r)
+raw_flag before d path r = flag_off before (d ∷ path) (sym (flag_after d path) ∙ raw_keeps (d ∷ path) r)
 
 kept_here : (mode : InsertionMode) (path : List Element) (s : List ℕ) → is_in_text path ≡ true → run_bytes s (here mode path false) ≡ ran (texts (is_in_raw path) s) (here mode path false)
 kept_here mode path s t = run_kept (here mode path false) (is_in_raw path) any_byte (λ c h. ap run_of (text_byte mode path c t)) s (all_any s)

@@ -198,14 +198,14 @@ meant_join (literal c ∷ ps) qs = ap (λ x. c ∷ x) (meant_join ps qs)
 meant_join (referred b cs ∷ ps) qs = ap (λ x. encode_utf8_all cs ++ x) (meant_join ps qs) ∙ sym (append_assoc (encode_utf8_all cs) (meant ps) (meant qs))
 
 -- what follows pieces, put together either way
-behind_same : (ps qs : List TextPiece) (after : List ℕ) → written_so ps ++ (written_so qs ++ after) ≡ written_so (ps ++ qs) ++ after
-behind_same ps qs after = sym (append_assoc (written_so ps) (written_so qs) after) ∙ ap (λ x. x ++ after) (sym (written_join ps qs))
+after_same : (ps qs : List TextPiece) (after : List ℕ) → written_so ps ++ (written_so qs ++ after) ≡ written_so (ps ++ qs) ++ after
+after_same ps qs after = sym (append_assoc (written_so ps) (written_so qs) after) ∙ ap (λ x. x ++ after) (sym (written_join ps qs))
 
 pieces_join : (t : List Entry) (in_rcdata : Bool) (ps qs : List TextPiece) (after : List ℕ) → ArePieces t in_rcdata ps (written_so qs ++ after) → ArePieces t in_rcdata qs after → ArePieces t in_rcdata (ps ++ qs) after
 pieces_join t in_rcdata [] qs after g h = h
-pieces_join t in_rcdata (literal c ∷ ps) qs after (k, g) h = (subst (λ x. ends_plain t in_rcdata c x ≡ false) (behind_same ps qs after) k, pieces_join t in_rcdata ps qs after g h)
+pieces_join t in_rcdata (literal c ∷ ps) qs after (k, g) h = (subst (λ x. ends_plain t in_rcdata c x ≡ false) (after_same ps qs after) k, pieces_join t in_rcdata ps qs after g h)
 pieces_join t in_rcdata (referred b cs ∷ ps) qs after (k, g) h =
-    (subst (λ x. reference_here t (b ++ x) ≡ Some (record { points = cs; len = length b })) (behind_same ps qs after) k, pieces_join t in_rcdata ps qs after g h)
+    (subst (λ x. reference_here t (b ++ x) ≡ Some (record { points = cs; len = length b })) (after_same ps qs after) k, pieces_join t in_rcdata ps qs after g h)
 
 pub touching_texts_are_in_pieces : TouchingTextsAreInPieces
 touching_texts_are_in_pieces t in_rcdata s b more c after h i = record {

@@ -9,10 +9,10 @@ use Rattle.hm_base.specs.Walks.{Event, start, text, comment, doctype, end, Eleme
 use Rattle.hm_base.specs.declared.rules.Rule.TheVariants.{TextHere}
 use Rattle.hm_elements.specs.Paths.{is_in_raw, is_in_text, is_in_blank}
 use Rattle.hm_spelling_spec.specs.Spellings.{Before, is_opening, is_line_feed, drops_first_line_feed}
-use Rattle.hm_construction_laws.specs.Steps.{InsertionMode, in_head, after_head, in_body, Construction, went, stops, drops_behind, keep_byte, step_byte}
+use Rattle.hm_construction_laws.specs.Steps.{InsertionMode, in_head, after_head, in_body, Construction, went, stops, drops_after, keep_byte, step_byte}
 use Rattle.hm_construction_laws.proofs.Texts.{texts, texts_join}
 use Rattle.hm_round_trip_laws.specs.Texts.{text_as_read}
-use Rattle.hm_round_trip_laws.proofs.Runs.{Run, ran, halted, behind_run, then_run, run_of, run_bytes}
+use Rattle.hm_round_trip_laws.proofs.Runs.{Run, ran, halted, after_run, then_run, run_of, run_bytes}
 use Rattle.hm_round_trip_laws.proofs.Frame.{here}
 
 -- ---- The line feed that is dropped
@@ -21,9 +21,9 @@ use Rattle.hm_round_trip_laws.proofs.Frame.{here}
 abbrev pub flag : Before → List Element → Bool
 flag before path = is_opening before && drops_first_line_feed path
 
-pub flag_behind : (e : Element) (path : List Element) → drops_behind (e ∷ path) ≡ drops_first_line_feed (e ∷ path)
+pub flag_after : (e : Element) (path : List Element) → drops_after (e ∷ path) ≡ drops_first_line_feed (e ∷ path)
 unfolding drops_first_line_feed
-flag_behind e path = refl
+flag_after e path = refl
 
 encoded_line_feed : encode 10 ≡ 10 ∷ []
 unfolding encode
@@ -71,7 +71,7 @@ pub run_kept : (st : Construction) (raw : Bool) (q : ℕ → Bool) → ((c : ℕ
 run_kept st raw q keeps [] h = refl
 run_kept st raw q keeps (c ∷ s) h =
     let two = and_parts (q c) (all_pass q s) h in
-    ap (λ r. then_run r (run_bytes s)) (keeps c two.0) ∙ ap (behind_run (text (c ∷ []) raw ∷ [])) (run_kept st raw q keeps s two.1)
+    ap (λ r. then_run r (run_bytes s)) (keeps c two.0) ∙ ap (after_run (text (c ∷ []) raw ∷ [])) (run_kept st raw q keeps s two.1)
 
 abbrev pub any_byte : ℕ → Bool
 any_byte c = true
@@ -80,13 +80,13 @@ pub all_any : (s : List ℕ) → all_pass any_byte s ≡ true
 all_any [] = refl
 all_any (c ∷ s) = all_any s
 
-none_behind : (r : Run) → behind_run [] r ≡ r
-none_behind (ran es st) = refl
-none_behind halted = refl
+none_follows : (r : Run) → after_run [] r ≡ r
+none_follows (ran es st) = refl
+none_follows halted = refl
 
 dropped : (mode : InsertionMode) (path : List Element) (s : List ℕ) → run_bytes (10 ∷ s) (here mode path true) ≡ run_bytes s (here mode path false)
 unfolding step_byte
-dropped mode path s = none_behind (run_bytes s (here mode path false))
+dropped mode path s = none_follows (run_bytes s (here mode path false))
 
 not_dropped : (mode : InsertionMode) (path : List Element) (c : ℕ) → c == 10 ≡ false → step_byte c (here mode path true) ≡ step_byte c (here mode path false)
 unfolding step_byte
@@ -124,9 +124,9 @@ pub head_space : (path : List Element) (c : ℕ) → is_in_text path ≡ false �
 unfolding step_byte
 head_space path c h space = rw (h, space) refl
 
-pub space_behind : (path : List Element) (c : ℕ) → is_in_text path ≡ false → is_space c ≡ true → step_byte c (here after_head path false) ≡ went (text (c ∷ []) (is_in_raw path) ∷ []) (here after_head path false)
+pub space_after : (path : List Element) (c : ℕ) → is_in_text path ≡ false → is_space c ≡ true → step_byte c (here after_head path false) ≡ went (text (c ∷ []) (is_in_raw path) ∷ []) (here after_head path false)
 unfolding step_byte
-space_behind path c h space = rw (h, space) refl
+space_after path c h space = rw (h, space) refl
 
 -- ---- The event of a text
 

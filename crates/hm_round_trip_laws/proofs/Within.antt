@@ -30,9 +30,9 @@ few_pass p [] f h = refl
 few_pass p (c ∷ s) f h = let both = and_parts (is_reference_byte c) (all_pass is_reference_byte s) h in and_from (p c) (all_pass p s) (f c both.0) (few_pass p s f both.1)
 
 -- the bytes of a reference pass
-pub reference_pass : (t : List Entry) (spot : Spot) (p : ℕ → Bool) (qs b behind : List ℕ) → IsTable t → p 38 ≡ true → ((c : ℕ) → is_reference_byte c ≡ true → p c ≡ true) → Refers t spot qs b behind → all_pass p b ≡ true
-reference_pass t spot p qs b behind k amp few r =
-    let m = amp_piece t spot qs b behind k r in
+pub reference_pass : (t : List Entry) (spot : Spot) (p : ℕ → Bool) (qs b after : List ℕ) → IsTable t → p 38 ≡ true → ((c : ℕ) → is_reference_byte c ≡ true → p c ≡ true) → Refers t spot qs b after → all_pass p b ≡ true
+reference_pass t spot p qs b after k amp few r =
+    let m = amp_piece t spot qs b after k r in
     subst (λ x. all_pass p x ≡ true) (sym m.is) (and_from (p 38) (all_pass p m.inner) amp (few_pass p m.inner few m.few))
 
 -- the bytes of characters that pass themselves pass

@@ -1,13 +1,13 @@
 //! What several of the tests make or compare: words of a call, paths, files of a store.
-use hm_base::Word;
+use hm_base::OwnedText;
 use hm_store::MemStore;
 use std::alloc::{AllocError, Global};
 
 /// The words of a text, with one space between each two.
-pub(crate) fn worded(alloc: Global, text: &str) -> Result<Vec<Word>, AllocError> {
+pub(crate) fn worded(alloc: Global, text: &str) -> Result<Vec<OwnedText>, AllocError> {
     let mut words = Vec::new(alloc);
     for word in text.split(' ') {
-        words.push(Word {
+        words.push(OwnedText {
             text: String::from_str(alloc, word)?,
         })?;
     }

@@ -2,7 +2,7 @@
 use Rattle.std.proofs.Common.{◌≡◌, ℕ, ◌+◌, ◌<◌, ◌≤◌, Bool, true, false, List, [], ◌∷◌, length, map, drop, get_or, slice_range, Some, string_bytes, refl, ap, sym, ◌∙◌, arith}
 use Rattle.std.specs.Str.{IsUtf8}
 use Rattle.std.proofs.lemmas.Str.{IsCharBoundary-after_ascii}
-use Rattle.hm_base.specs.Bytes.{behind, lower}
+use Rattle.hm_base.specs.Bytes.{rest_after, lower}
 use Rattle.hm_base.specs.Forms.{is_tag_name}
 use Rattle.hm_refs.specs.Names.{Entry}
 use Rattle.hm_refs.specs.Reads.{IsEndOf}
@@ -20,12 +20,12 @@ unfolding is_tag_end
 ends_here rest = refl
 
 pub bare_is : (t : List Entry) (keeps : Bool) (s : List ℕ) (from to : ℕ) (read : places.Tag) → IsUtf8 s → IsEndOf is_name_byte s from to → IsPlainName (slice_range s from to) → to < length s → get_or s to 0 ≡ 62
-    → string_bytes read.name ≡ map lower (slice_range s from to) → read.attrs ≡ [] → IsWhole t keeps s from read (record { slash = false; behind = to + 1 })
+    → string_bytes read.name ≡ map lower (slice_range s from to) → read.attrs ≡ [] → IsWhole t keeps s from read (record { slash = false; after = to + 1 })
 bare_is t keeps s from to read utf8 e plain inside greater is none =
     let name : tag_name (drop from s) ≡ slice_range s from to = ap (map lower) e.front ∙ plain.lowered in
     let accepted : is_tag_name (tag_name (drop from s)) ≡ true = ap is_tag_name name ∙ plain.is in
     let rest : drop to s ≡ 62 ∷ drop (to + 1) s = rest_cons s to inside ∙ ap (λ c. c ∷ drop (to + 1) s) greater in
-    let cut : cut_tag (behind is_name_byte (drop from s)) ≡ Some (record { attributes = []; slash = false; rest = drop (to + 1) s }) = ap cut_tag (e.behind ∙ rest) ∙ ends_here (drop (to + 1) s) in
+    let cut : cut_tag (rest_after is_name_byte (drop from s)) ≡ Some (record { attributes = []; slash = false; rest = drop (to + 1) s }) = ap cut_tag (e.after ∙ rest) ∙ ends_here (drop (to + 1) s) in
     let low : from ≤ to = e.forward in
     record {
       accepted = ap (fault_by (tag_name (drop from s))) cut ∙ no_fault (tag_name (drop from s)) [] accepted refl (omega arith);

@@ -2,7 +2,7 @@
 use Rattle.std.proofs.Common.{◌≡◌, ℕ, ◌<◌, ◌≤◌, Bool, true, false, cond, List, [], ◌∷◌, drop, get_or, refl, subst, arith}
 use Rattle.std.specs.Str.{IsUtf8, IsCharBoundary}
 use Rattle.std.proofs.lemmas.Str.{IsUtf8-drop, IsCharBoundary-after_ascii, IsCharBoundary-from_drop}
-use Rattle.hm_base.specs.Bytes.{behind, is_space}
+use Rattle.hm_base.specs.Bytes.{rest_after, is_space}
 use Rattle.hm_base.specs.RawText.{is_name_end}
 use Rattle.hm_scan.specs.Tags.{is_name_byte, is_later_byte, is_unquoted_byte}
 use Rattle.hm_refs.specs.Reads.{IsEndOf}
@@ -12,17 +12,17 @@ use Rattle.hm_scan.specs.TagPlaces.{is_gap_byte}
 high_ends : (p : ℕ → Bool) (s : List ℕ) (from to : ℕ) → ((c : ℕ) → 128 ≤ c → p c ≡ true) → IsEndOf p s from to → IsCharBoundary s to
 high_ends p s from to high e = (e.inside, λ l h. let a = high (get_or s to 0) h in let b = e.stops l in absurd (cc))
 
-utf8_behind : (p : ℕ → Bool) (s : List ℕ) → ((c : ℕ) → p c ≡ true → c < 128) → IsUtf8 s → IsUtf8 (behind p s)
-utf8_behind p [] low u = u
-utf8_behind p (c ∷ s) low u = by_test (p c) refl (utf8_behind p s low)
+utf8_after : (p : ℕ → Bool) (s : List ℕ) → ((c : ℕ) → p c ≡ true → c < 128) → IsUtf8 s → IsUtf8 (rest_after p s)
+utf8_after p [] low u = u
+utf8_after p (c ∷ s) low u = by_test (p c) refl (utf8_after p s low)
   where
-    by_test : (b : Bool) → p c ≡ b → (IsUtf8 s → IsUtf8 (behind p s)) → IsUtf8 (cond b (behind p s) (c ∷ s))
+    by_test : (b : Bool) → p c ≡ b → (IsUtf8 s → IsUtf8 (rest_after p s)) → IsUtf8 (cond b (rest_after p s) (c ∷ s))
     by_test true e more = more (IsUtf8-drop (c ∷ s) 1 u (IsCharBoundary-after_ascii (c ∷ s) 0 u (omega arith) (low c e)))
     by_test false e more = u
 
 -- a run of ASCII
 low_ends : (p : ℕ → Bool) (s : List ℕ) (from to : ℕ) → ((c : ℕ) → p c ≡ true → c < 128) → IsUtf8 s → IsCharBoundary s from → IsEndOf p s from to → IsCharBoundary s to
-low_ends p s from to low u b e = IsCharBoundary-from_drop s to e.inside (subst IsUtf8 e.behind (utf8_behind p (drop from s) low (IsUtf8-drop s from u b)))
+low_ends p s from to low u b e = IsCharBoundary-from_drop s to e.inside (subst IsUtf8 e.after (utf8_after p (drop from s) low (IsUtf8-drop s from u b)))
 
 space_low : (c : ℕ) → is_space c ≡ true → c < 128
 unfolding is_space

@@ -5,22 +5,22 @@ use Rattle.std.proofs.lemmas.List.{drop-drop, get_or-drop}
 use Rattle.memchr.specs.Find.{is_byte2}
 use Rattle.hm_base.specs.Bytes.{Cut, strip, cut_at}
 use Rattle.hm_base.specs.RawText.{is_found}
-use Rattle.hm_scan.specs.Comments.{begins, begins_comment, found_and, is_no_tag, behind_end, cut_comment, cut_where, comment_at, comment_front}
+use Rattle.hm_scan.specs.Comments.{begins, begins_comment, found_and, is_no_tag, after_end, cut_comment, cut_where, comment_at, comment_front}
 use Rattle.hm_scan.specs.Doctypes.{begins_doctype}
-use Rattle.hm_scan.specs.Found.{IsFound, IsFoundBehind, Finds}
+use Rattle.hm_scan.specs.Found.{IsFound, IsFoundAfter, Finds}
 use Rattle.hm_scan.specs.declared.search.MarkPiece.{MarkPiece}
-use Rattle.hm_scan.proofs.Places.{found_behind}
+use Rattle.hm_scan.proofs.Places.{found_after}
 use Rattle.hm_scan.proofs.Searches.{not_stripped, begins_front, begins_not, begins_long, begins_reads}
 
 abbrev pub NoEnd : List ℕ → ℕ → ℕ → Type 0
-NoEnd s from to = (k : ℕ) → from ≤ k → k < to → behind_end (drop k s) ≡ None
+NoEnd s from to = (k : ℕ) → from ≤ k → k < to → after_end (drop k s) ≡ None
 
 -- the third byte of an end of a comment
 abbrev pub is_sign : ℕ → Bool
 is_sign = is_byte2 62 33
 
 -- an end stands only where its third byte is a sign
-no_sign : (s : List ℕ) (k : ℕ) → k < length s → (k + 2 < length s → is_sign (get_or s (k + 2) 0) ≡ true → ⊥) → behind_end (drop k s) ≡ None
+no_sign : (s : List ℕ) (k : ℕ) → k < length s → (k + 2 < length s → is_sign (get_or s (k + 2) 0) ≡ true → ⊥) → after_end (drop k s) ≡ None
 no_sign s k inside other =
     let arrow : strip (codes "-->") (drop k s) ≡ None = not_stripped (codes "-->") s k inside (λ o. other (omega (arith, o.fits)) (rw (o.reads 2 (omega arith)) refl)) in
     let bang : strip (codes "--!>") (drop k s) ≡ None = not_stripped (codes "--!>") s k inside (λ o. other (omega (arith, o.fits)) (rw (o.reads 2 (omega arith)) refl)) in
@@ -37,15 +37,15 @@ none_before s from at to inside none signs k low high = elim (cases_lt k at) [
 ]
 
 -- nor at a place where none is found
-pub none_at : (s : List ℕ) (from to : ℕ) → NoEnd s from to → behind_end (drop to s) ≡ None → NoEnd s from (to + 1)
+pub none_at : (s : List ℕ) (from to : ℕ) → NoEnd s from to → after_end (drop to s) ≡ None → NoEnd s from (to + 1)
 none_at s from to none here k low high = elim (cases_lt k to) [
   | inl h ↦ none k low h
-  | inr h ↦ let same : to ≡ k = omega arith in subst (λ m. behind_end (drop m s) ≡ None) same here
+  | inr h ↦ let same : to ≡ k = omega arith in subst (λ m. after_end (drop m s) ≡ None) same here
 ]
 
 -- what ends a comment at once
 pub ended_by : (mark s : List ℕ) (from : ℕ) (cut : Option Cut) → begins mark (drop from s) ≡ true → 0 < length mark → get_or mark 0 0 < 128 → get_or mark (length mark - 1) 0 < 128
-    → cut ≡ Some (record { before = []; behind = drop (length mark) (drop from s) }) → IsFound s from cut (record { from = from; to = from; behind = from + length mark })
+    → cut ≡ Some (record { before = []; after = drop (length mark) (drop from s) }) → IsFound s from cut (record { from = from; to = from; after = from + length mark })
 ended_by mark s from cut here some first last is =
     let long : length (drop from s) ≡ length s - from = length-drop from s in
     let fits : length mark ≤ length (drop from s) = begins_long mark (drop from s) here in
@@ -63,13 +63,13 @@ ended_by mark s from cut here some first last is =
       is = is ∙ rw (width, drop-drop (length mark) from s) refl;
     }
 
-pub cut_at_greater : (s : List ℕ) → begins (codes ">") s ≡ true → cut_comment s ≡ Some (record { before = []; behind = drop 1 s })
+pub cut_at_greater : (s : List ℕ) → begins (codes ">") s ≡ true → cut_comment s ≡ Some (record { before = []; after = drop 1 s })
 cut_at_greater s e = rw (begins_front (codes ">") s e) refl
 
-pub cut_at_arrow : (s : List ℕ) → begins (codes ">") s ≡ false → begins (codes "->") s ≡ true → cut_comment s ≡ Some (record { before = []; behind = drop 2 s })
+pub cut_at_arrow : (s : List ℕ) → begins (codes ">") s ≡ false → begins (codes "->") s ≡ true → cut_comment s ≡ Some (record { before = []; after = drop 2 s })
 cut_at_arrow s e f = rw (begins_not (codes ">") s e, begins_front (codes "->") s f) refl
 
-pub cut_further : (s : List ℕ) → begins (codes ">") s ≡ false → begins (codes "->") s ≡ false → cut_comment s ≡ cut_where behind_end s
+pub cut_further : (s : List ℕ) → begins (codes ">") s ≡ false → begins (codes "->") s ≡ false → cut_comment s ≡ cut_where after_end s
 cut_further s e f = rw (begins_not (codes ">") s e, begins_not (codes "->") s f) refl
 
 -- after `<!` or `</`
@@ -93,19 +93,19 @@ comment_long s e = either (begins (codes "<?") s) refl
     either false f = (second_byte s e f).0
 
 -- a piece that is found from a place on begins there
-pub starts_behind : (s : List ℕ) (start n : ℕ) (cut : Option Cut) (found : Option MarkPiece) → Finds s (start + n) cut found → n ≡ comment_front (drop start s) → IfSome found (λ piece. piece.from ≡ start + comment_front (drop start s))
-starts_behind s start n cut None h e = tt
-starts_behind s start n cut (Some p) h e = h.starts ∙ ap (λ m. start + m) e
+pub starts_after : (s : List ℕ) (start n : ℕ) (cut : Option Cut) (found : Option MarkPiece) → Finds s (start + n) cut found → n ≡ comment_front (drop start s) → IfSome found (λ piece. piece.from ≡ start + comment_front (drop start s))
+starts_after s start n cut None h e = tt
+starts_after s start n cut (Some p) h e = h.starts ∙ ap (λ m. start + m) e
 
 -- The piece that is found gives the comment.
 module _ (s : List ℕ) (start : ℕ) where
   abbrev Piece_at : Option MarkPiece → Type 0
-  Piece_at found = MatchOption found (comment_at (drop start s) ≡ None) (IsFoundBehind s start (comment_at (drop start s)))
+  Piece_at found = MatchOption found (comment_at (drop start s) ≡ None) (IsFoundAfter s start (comment_at (drop start s)))
 
   -- by a cut from a place on that stands after an ASCII byte
   from_place : (from : ℕ) (cut : Option Cut) (found : Option MarkPiece) → start < from → get_or s (from - 1) 0 < 128 → comment_at (drop start s) ≡ cut → Finds s from cut found → Piece_at found
   from_place from cut None beyond ascii same h = same ∙ h
-  from_place from cut (Some p) beyond ascii same h = rw same (found_behind s start from cut p beyond ascii h)
+  from_place from cut (Some p) beyond ascii same h = rw same (found_after s start from cut p beyond ascii h)
 
   byte_at : (n d : ℕ) → get_or (drop start s) n 0 ≡ d → get_or s (start + n) 0 ≡ d
   byte_at n d e = sym (get_or-drop start s n 0) ∙ e

@@ -15,7 +15,7 @@ RestExtends y (Some r) b = b ≡ Some (r ++ y)
 
 abbrev pub CutExtends : List ℕ → Option Cut → Option Cut → Type 0
 CutExtends y None b = Unit {0}
-CutExtends y (Some k) b = b ≡ Some (record k { behind = k.behind ++ y })
+CutExtends y (Some k) b = b ≡ Some (record k { after = k.after ++ y })
 
 -- what is found takes at least n bytes of s
 abbrev pub Takes : ℕ → List ℕ → Option (List ℕ) → Type 0

@@ -9,7 +9,7 @@ use Rattle.hm_scan.specs.Doctypes.{begins_doctype, doctype_form, as_doctype, rea
 use Rattle.hm_scan.specs.Found.{IsFound}
 use Rattle.hm_scan.specs.declared.search.MarkPiece.{MarkPiece}
 use Rattle.hm_scan.proofs.Lowered.{word_long}
-use Rattle.hm_scan.proofs.Places.{boundary_behind}
+use Rattle.hm_scan.proofs.Places.{boundary_after}
 
 pub doctype_long : (s : List ℕ) (at : ℕ) → begins_doctype (drop at s) ≡ true → at + 9 ≤ length s
 unfolding begins_doctype
@@ -27,10 +27,10 @@ module _ (s : List ℕ) (at : ℕ) (p : MarkPiece) (found : IsFound s (at + 9) (
   unfolding read_doctype
   doctype_bad form = rw (drop-drop 9 at s, found.is, sym form) refl
 
-  pub doctype_read : (legacy : Bool) → IsUtf8 s → Some legacy ≡ doctype_form (slice_range s p.from p.to) → Reads (read_doctype (drop at s)) s (tokens.Doctype legacy) p.behind
+  pub doctype_read : (legacy : Bool) → IsUtf8 s → Some legacy ≡ doctype_form (slice_range s p.from p.to) → Reads (read_doctype (drop at s)) s (tokens.Doctype legacy) p.after
   unfolding read_doctype
   doctype_read legacy utf8 form = record {
     is = rw (drop-drop 9 at s, found.is, sym form) refl;
     inside = tt;
-    boundary = boundary_behind s p.behind utf8 (omega (arith, found.ends)) found.inside found.last;
+    boundary = boundary_after s p.after utf8 (omega (arith, found.ends)) found.inside found.last;
   }

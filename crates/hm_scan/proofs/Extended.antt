@@ -8,7 +8,7 @@ use Rattle.hm_base.specs.Bytes.{Cut, cut_at, strip}
 use Rattle.hm_base.specs.RawText.{is_found}
 use Rattle.hm_tree.specs.Tokens.{Extends}
 use Rattle.hm_scan.specs.Pieces.{as_comment, as_slice}
-use Rattle.hm_scan.specs.Comments.{begins, cut_where, behind_end, at_once, cut_comment, comment_at, read_comment, read_cdata}
+use Rattle.hm_scan.specs.Comments.{begins, cut_where, after_end, at_once, cut_comment, comment_at, read_comment, read_cdata}
 use Rattle.hm_scan.specs.Doctypes.{doctype_form, by_form, as_doctype, read_doctype}
 use Rattle.hm_scan.proofs.Cuts.{RestExtends, CutExtends, Takes, CutTakes, Looks, strip_takes, strip_extends, strip_whole, cut_takes, cut_extends, cut_at_extends}
 
@@ -26,7 +26,7 @@ by_form_extends (Some legacy) r y = refl
 
 as_doctype_extends : (y : List ℕ) (a b : Option Cut) → CutExtends y a b → Extends y (as_doctype a) (as_doctype b)
 as_doctype_extends y None b h = tt
-as_doctype_extends y (Some k) b h = rw h (by_form_extends (doctype_form k.before) k.behind y)
+as_doctype_extends y (Some k) b h = rw h (by_form_extends (doctype_form k.before) k.after y)
 
 -- Two marks that are looked for at once, the second as long as the first or longer by one byte.
 marks_look : (a b : List ℕ) → length a ≤ length b → length b ≤ suc (length a) → Looks (λ s. option_or (strip a s) (strip b s)) (length b)
@@ -55,7 +55,7 @@ marks_look a b low high = record {
     longer s None None h i = tt
     longer s None (Some r) h i = omega arith
 
-end_looks : Looks behind_end 4
+end_looks : Looks after_end 4
 end_looks = marks_look (codes "-->") (codes "--!>") (omega arith) (omega arith)
 
 start_looks : Looks (λ s. option_or (strip (codes ">") s) (strip (codes "->") s)) 2
@@ -63,10 +63,10 @@ start_looks = marks_look (codes ">") (codes "->") (omega arith) (omega arith)
 
 -- after `<!--`
 cut_comment_extends : (s y : List ℕ) → CutExtends y (cut_comment s) (cut_comment (s ++ y))
-cut_comment_extends s y = extended (option_or (strip (codes ">") s) (strip (codes "->") s)) (cut_where behind_end s) refl (start_looks.extends s y) (cut_takes behind_end 4 end_looks s) (cut_extends behind_end 4 end_looks s y)
+cut_comment_extends s y = extended (option_or (strip (codes ">") s) (strip (codes "->") s)) (cut_where after_end s) refl (start_looks.extends s y) (cut_takes after_end 4 end_looks s) (cut_extends after_end 4 end_looks s y)
   where
     extended : (o : Option (List ℕ)) (k : Option Cut) → option_or (strip (codes ">") s) (strip (codes "->") s) ≡ o
-        → RestExtends y o (option_or (strip (codes ">") (s ++ y)) (strip (codes "->") (s ++ y))) → CutTakes 4 (0 ∷ s) k → CutExtends y k (cut_where behind_end (s ++ y))
+        → RestExtends y o (option_or (strip (codes ">") (s ++ y)) (strip (codes "->") (s ++ y))) → CutTakes 4 (0 ∷ s) k → CutExtends y k (cut_where after_end (s ++ y))
         → CutExtends y (at_once o k) (cut_comment (s ++ y))
     extended (Some r) k e x h i = rw x refl
     extended None None e x h i = tt
@@ -116,16 +116,16 @@ unfolding read_comment
 comment_extends s y = as_comment_extends y (comment_at s) (comment_at (s ++ y)) (comment_at_extends s y)
 
 -- after n bytes
-behind_extends : (mark : List ℕ) (n : ℕ) (s y : List ℕ) → CutExtends y (cut_at mark (drop n s)) (cut_at mark (drop n (s ++ y)))
-behind_extends mark n s y = elim (cases_lt n (length s)) [
+after_extends : (mark : List ℕ) (n : ℕ) (s y : List ℕ) → CutExtends y (cut_at mark (drop n s)) (cut_at mark (drop n (s ++ y)))
+after_extends mark n s y = elim (cases_lt n (length s)) [
   | inl h ↦ rw (drop-append-le n s y (omega arith)) (cut_at_extends mark (drop n s) y)
   | inr h ↦ rw (drop_of_length-le s h) tt
 ]
 
 pub cdata_extends : (s y : List ℕ) → Extends y (read_cdata s) (read_cdata (s ++ y))
 unfolding read_cdata
-cdata_extends s y = as_slice_extends y _ _ (behind_extends (codes "]]>") 9 s y)
+cdata_extends s y = as_slice_extends y _ _ (after_extends (codes "]]>") 9 s y)
 
 pub doctype_extends : (s y : List ℕ) → Extends y (read_doctype s) (read_doctype (s ++ y))
 unfolding read_doctype
-doctype_extends s y = as_doctype_extends y _ _ (behind_extends (codes ">") 9 s y)
+doctype_extends s y = as_doctype_extends y _ _ (after_extends (codes ">") 9 s y)

@@ -1,50 +1,50 @@
 -- A tag that ends is read the same, whatever follows it.
 use Rattle.std.proofs.Common.{◌≡◌, ℕ, zero, suc, ◌-◌, ◌⊎◌, Bool, true, false, cond, ◌==◌, List, [], ◌∷◌, ◌++◌, length, Option, Some, None, refl, inl, inr, arith, length-append}
-use Rattle.hm_base.specs.Bytes.{Cut, front, behind, head_is, is_space}
+use Rattle.hm_base.specs.Bytes.{Cut, front, rest_after, head_is, is_space}
 use Rattle.hm_base.specs.Walks.{Attribute}
 use Rattle.hm_refs.specs.Names.{Entry}
 use Rattle.hm_tree.specs.Tokens.{Seen, start_tag, end_tag, Extends}
 use Rattle.hm_tree.specs.declared.tokens.ScanFault.{ScanFault}
 use Rattle.hm_tree.specs.declared.tokens.ScanFault.TheVariants as faults
-use Rattle.hm_scan.specs.Tags.{is_name_byte, is_later_byte, is_unquoted_byte, is_inside, is_quote, is_tag_end, cut_behind, cut_quoted, cut_value, cut_assigned, Written, with_name, attribute_at, CutTag, with_attribute, with_slash, attribute_then, tag_from}
+use Rattle.hm_scan.specs.Tags.{is_name_byte, is_later_byte, is_unquoted_byte, is_inside, is_quote, is_tag_end, cut_after, cut_quoted, cut_value, cut_assigned, Written, with_name, attribute_at, CutTag, with_attribute, with_slash, attribute_then, tag_from}
 use Rattle.hm_scan.specs.Reading.{tag_fault, unless_fault, start_of, end_of, tag_name, read_attributes, read_start, read_end, read_by, read_tag}
 use Rattle.hm_scan.specs.TagLaws.{WhateverFollows}
-use Rattle.hm_scan.proofs.Fronts.{cond_both, cases_list, front_append, behind_append}
+use Rattle.hm_scan.proofs.Fronts.{cond_both, cases_list, front_append, after_append}
 
 -- nothing follows the cut, or it is the same in a longer text, with more after it
 abbrev CutGoesOn : List ℕ → Cut → Cut → Type 0
-CutGoesOn y k l = (k.behind ≡ []) ⊎ (l ≡ record k { behind = k.behind ++ y })
+CutGoesOn y k l = (k.after ≡ []) ⊎ (l ≡ record k { after = k.after ++ y })
 
-behind_goes_on : (p : ℕ → Bool) (s y : List ℕ) → CutGoesOn y (cut_behind p s) (cut_behind p (s ++ y))
-behind_goes_on p s y = elim (cases_list (behind p s)) [
+after_goes_on : (p : ℕ → Bool) (s y : List ℕ) → CutGoesOn y (cut_after p s) (cut_after p (s ++ y))
+after_goes_on p s y = elim (cases_list (rest_after p s)) [
   | inl e ↦ inl e
-  | inr q ↦ inr (rw (front_append p s y q.0 q.1 q.2, behind_append p s y q.0 q.1 q.2) refl)
+  | inr q ↦ inr (rw (front_append p s y q.0 q.1 q.2, after_append p s y q.0 q.1 q.2) refl)
 ]
 
 quoted_goes_on : (q : ℕ) (s y : List ℕ) → CutGoesOn y (cut_quoted q s) (cut_quoted q (s ++ y))
-quoted_goes_on q s y = elim (cases_list (behind (is_inside q) s)) [
+quoted_goes_on q s y = elim (cases_list (rest_after (is_inside q) s)) [
   | inl e ↦ inl (rw e refl)
-  | inr w ↦ inr (rw (front_append (is_inside q) s y w.0 w.1 w.2, behind_append (is_inside q) s y w.0 w.1 w.2, w.2) refl)
+  | inr w ↦ inr (rw (front_append (is_inside q) s y w.0 w.1 w.2, after_append (is_inside q) s y w.0 w.1 w.2, w.2) refl)
 ]
 
 value_goes_on : (s y : List ℕ) → CutGoesOn y (cut_value s) (cut_value (s ++ y))
 value_goes_on [] y = inl refl
-value_goes_on (c ∷ s) y = cond_both (CutGoesOn y) (is_quote c) (quoted_goes_on c s y) (behind_goes_on is_unquoted_byte (c ∷ s) y)
+value_goes_on (c ∷ s) y = cond_both (CutGoesOn y) (is_quote c) (quoted_goes_on c s y) (after_goes_on is_unquoted_byte (c ∷ s) y)
 
-spaced_goes_on : (s y : List ℕ) → CutGoesOn y (cut_value (behind is_space s)) (cut_value (behind is_space (s ++ y)))
-spaced_goes_on s y = elim (cases_list (behind is_space s)) [
+spaced_goes_on : (s y : List ℕ) → CutGoesOn y (cut_value (rest_after is_space s)) (cut_value (rest_after is_space (s ++ y)))
+spaced_goes_on s y = elim (cases_list (rest_after is_space s)) [
   | inl e ↦ inl (rw e refl)
-  | inr q ↦ rw (behind_append is_space s y q.0 q.1 q.2) (value_goes_on (behind is_space s) y)
+  | inr q ↦ rw (after_append is_space s y q.0 q.1 q.2) (value_goes_on (rest_after is_space s) y)
 ]
 
 assigned_goes_on : (s r y : List ℕ) → CutGoesOn y (cut_assigned s r) (cut_assigned (s ++ y) (r ++ y))
 assigned_goes_on s [] y = inl refl
 assigned_goes_on s (c ∷ r) y = cond_both (CutGoesOn y) (c == 61) (spaced_goes_on r y) (inr refl)
 
-behind_name_goes_on : (s y : List ℕ) → CutGoesOn y (cut_assigned s (behind is_space s)) (cut_assigned (s ++ y) (behind is_space (s ++ y)))
-behind_name_goes_on s y = elim (cases_list (behind is_space s)) [
+after_name_goes_on : (s y : List ℕ) → CutGoesOn y (cut_assigned s (rest_after is_space s)) (cut_assigned (s ++ y) (rest_after is_space (s ++ y)))
+after_name_goes_on s y = elim (cases_list (rest_after is_space s)) [
   | inl e ↦ inl (rw e refl)
-  | inr q ↦ rw (behind_append is_space s y q.0 q.1 q.2) (assigned_goes_on s (behind is_space s) y)
+  | inr q ↦ rw (after_append is_space s y q.0 q.1 q.2) (assigned_goes_on s (rest_after is_space s) y)
 ]
 
 abbrev GoesOn : List ℕ → Written → Written → Type 0
@@ -56,10 +56,10 @@ with_name_goes_on name y k l (inr e) = inr (rw e refl)
 
 attribute_goes_on : (c : ℕ) (s y : List ℕ) → GoesOn y (attribute_at c s) (attribute_at c (s ++ y))
 unfolding attribute_at
-attribute_goes_on c s y = elim (cases_list (behind is_later_byte s)) [
+attribute_goes_on c s y = elim (cases_list (rest_after is_later_byte s)) [
   | inl e ↦ inl (rw e refl)
-  | inr q ↦ rw (front_append is_later_byte s y q.0 q.1 q.2, behind_append is_later_byte s y q.0 q.1 q.2)
-      (with_name_goes_on (c ∷ front is_later_byte s) y _ _ (behind_name_goes_on (behind is_later_byte s) y))
+  | inr q ↦ rw (front_append is_later_byte s y q.0 q.1 q.2, after_append is_later_byte s y q.0 q.1 q.2)
+      (with_name_goes_on (c ∷ front is_later_byte s) y _ _ (after_name_goes_on (rest_after is_later_byte s) y))
 ]
 
 -- a tag that has an end is the same in a longer text, with more after it
@@ -106,7 +106,7 @@ fault_extends (Some faults.Cut) token r y = tt
 fault_extends (Some faults.BadName) token r y = refl
 fault_extends (Some faults.TooManyAttributes) token r y = refl
 fault_extends (Some faults.BadDoctype) token r y = refl
-fault_extends (Some faults.Memory) token r y = refl
+fault_extends (Some faults.OutOfMemory) token r y = refl
 
 start_of_extends : (t : List Entry) (name y : List ℕ) (o p : Option CutTag) → TagExtends y o p → Extends y (start_of t name o) (start_of t name p)
 start_of_extends t name y None p h = tt
@@ -119,18 +119,18 @@ end_of_extends name y (Some g) p h = rw h (fault_extends (tag_fault name g.attri
 
 start_extends : (t : List Entry) (s y : List ℕ) → Extends y (read_start t s) (read_start t (s ++ y))
 unfolding read_start
-start_extends t s y = elim (cases_list (behind is_name_byte s)) [
+start_extends t s y = elim (cases_list (rest_after is_name_byte s)) [
   | inl e ↦ rw e tt
-  | inr q ↦ rw (front_append is_name_byte s y q.0 q.1 q.2, behind_append is_name_byte s y q.0 q.1 q.2)
-      (start_of_extends t (tag_name s) y _ _ (tag_extends 0 (behind is_name_byte s) y))
+  | inr q ↦ rw (front_append is_name_byte s y q.0 q.1 q.2, after_append is_name_byte s y q.0 q.1 q.2)
+      (start_of_extends t (tag_name s) y _ _ (tag_extends 0 (rest_after is_name_byte s) y))
 ]
 
 end_extends : (s y : List ℕ) → Extends y (read_end s) (read_end (s ++ y))
 unfolding read_end
-end_extends s y = elim (cases_list (behind is_name_byte s)) [
+end_extends s y = elim (cases_list (rest_after is_name_byte s)) [
   | inl e ↦ rw e tt
-  | inr q ↦ rw (front_append is_name_byte s y q.0 q.1 q.2, behind_append is_name_byte s y q.0 q.1 q.2)
-      (end_of_extends (tag_name s) y _ _ (tag_extends 0 (behind is_name_byte s) y))
+  | inr q ↦ rw (front_append is_name_byte s y q.0 q.1 q.2, after_append is_name_byte s y q.0 q.1 q.2)
+      (end_of_extends (tag_name s) y _ _ (tag_extends 0 (rest_after is_name_byte s) y))
 ]
 
 pub whatever_follows : WhateverFollows

@@ -1,7 +1,7 @@
 -- A run of letters is the front of a run of other bytes too.
 use Rattle.std.proofs.Common.{◌≡◌, ℕ, Bool, true, List, [], ◌∷◌, ◌++◌, drop, slice_range, refl, ap, sym, ◌∙◌}
 use Rattle.std.proofs.lemmas.Bool.{and_parts}
-use Rattle.hm_base.specs.Bytes.{all_pass, behind, front}
+use Rattle.hm_base.specs.Bytes.{all_pass, rest_after, front}
 use Rattle.hm_base.specs.Forms.{is_small, is_tag_byte}
 use Rattle.hm_refs.specs.Reads.{IsEndOf}
 use Rattle.hm_refs.proofs.RunEnds.{Runs, front_passes}
@@ -20,11 +20,11 @@ front_over p (c ∷ xs) ys h =
     let both : (p c ≡ true) × (all_pass p xs ≡ true) = and_parts (p c) (all_pass p xs) h in
     rw both.0 (ap (λ r. c ∷ r) (front_over p xs ys both.1))
 
-behind_over : (p : ℕ → Bool) (xs ys : List ℕ) → all_pass p xs ≡ true → behind p (xs ++ ys) ≡ behind p ys
-behind_over p [] ys h = refl
-behind_over p (c ∷ xs) ys h =
+after_over : (p : ℕ → Bool) (xs ys : List ℕ) → all_pass p xs ≡ true → rest_after p (xs ++ ys) ≡ rest_after p ys
+after_over p [] ys h = refl
+after_over p (c ∷ xs) ys h =
     let both : (p c ≡ true) × (all_pass p xs ≡ true) = and_parts (p c) (all_pass p xs) h in
-    rw both.0 (behind_over p xs ys both.1)
+    rw both.0 (after_over p xs ys both.1)
 
 pub letters_run : (s : List ℕ) (from to : ℕ) → IsEndOf is_small s from to → Runs is_tag_byte s from to
 letters_run s from to e =
@@ -34,5 +34,5 @@ letters_run s from to e =
       forward = e.forward;
       inside = e.inside;
       front = ap (front is_tag_byte) cut ∙ front_over is_tag_byte (slice_range s from to) (drop to s) passes;
-      behind = ap (behind is_tag_byte) cut ∙ behind_over is_tag_byte (slice_range s from to) (drop to s) passes;
+      after = ap (rest_after is_tag_byte) cut ∙ after_over is_tag_byte (slice_range s from to) (drop to s) passes;
     }

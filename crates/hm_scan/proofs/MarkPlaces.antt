@@ -4,7 +4,7 @@ use Rattle.std.proofs.lemmas.List.{drop-drop, drop_more, drop_all}
 use Rattle.std.proofs.lemmas.Bool.Decides.{nat_tests}
 use Rattle.memchr.specs.Find.{Passes, is_byte2}
 use Rattle.hm_base.specs.Bytes.{lower}
-use Rattle.hm_base.specs.RawText.{Mark, Marked, ScriptState, mark_at, with_mark, marks_from, first_end, ends_script, state_behind}
+use Rattle.hm_base.specs.RawText.{Mark, Marked, ScriptState, mark_at, with_mark, marks_from, first_end, ends_script, state_after}
 use Rattle.hm_scan.specs.Scripts.{next_state}
 use Rattle.hm_scan.proofs.Lowered.{eqb_lower}
 
@@ -40,13 +40,13 @@ marks_at i s n h = rw (drop_more s n 0 h) refl
 module _ (st : ScriptState) (i : ℕ) (more : List Marked) where
   pub ends_here : (m : Option Mark) → next_state st m ≡ None → first_end st (with_mark m i more) ≡ Some i
   ends_here None e = cc
-  ends_here (Some k) e = elim (ends_script st k) as (λ b. cond b None (Some (state_behind st k)) ≡ None → cond b (Some i) (first_end (state_behind st k) more) ≡ Some i)
+  ends_here (Some k) e = elim (ends_script st k) as (λ b. cond b None (Some (state_after st k)) ≡ None → cond b (Some i) (first_end (state_after st k) more) ≡ Some i)
       [ true ↦ λ f. refl | false ↦ λ f. cc ] e
 
   pub goes_on : (m : Option Mark) (next : ScriptState) → next_state st m ≡ Some next → first_end st (with_mark m i more) ≡ first_end next more
   goes_on None next e = let same : st ≡ next = cc in rw same refl
-  goes_on (Some k) next e = elim (ends_script st k) as (λ b. cond b None (Some (state_behind st k)) ≡ Some next → cond b (Some i) (first_end (state_behind st k) more) ≡ first_end next more)
-      [ true ↦ λ f. cc | false ↦ λ f. let same : state_behind st k ≡ next = cc in rw same refl ] e
+  goes_on (Some k) next e = elim (ends_script st k) as (λ b. cond b None (Some (state_after st k)) ≡ Some next → cond b (Some i) (first_end (state_after st k) more) ≡ first_end next more)
+      [ true ↦ λ f. cc | false ↦ λ f. let same : state_after st k ≡ next = cc in rw same refl ] e
 
 -- from a place up to the next `<` or dash
 module _ (s : List ℕ) (from at to : ℕ) (low : from ≤ at) (high : at ≤ to) (inside : to ≤ length s) (none : (j : ℕ) → j < to - at → Passes (is_byte2 60 45) (drop at s) j → ⊥) where

@@ -48,10 +48,10 @@ pub reads_slice : (t : List Entry) (rcdata : Bool) (s : List ℕ) (at to : ℕ) 
 reads_slice t rcdata s at to starts none p =
     let ends : IsCharBoundary s to = end_boundary t rcdata s at to p in
     let there : drop (to - at) (drop at s) ≡ drop to s = drop-drop (to - at) at s ∙ ap (λ m. drop m s) (omega (arith, p.forward)) in
-    let behind : drop (length (plain_front t rcdata (drop at s))) (drop at s) ≡ drop to s =
+    let after : drop (length (plain_front t rcdata (drop at s))) (drop at s) ≡ drop to s =
     ap (λ x. drop (length x) (drop at s)) p.is ∙ ap (λ n. drop n (drop at s)) (piece_long s at to p.forward p.inside) ∙ there in
     record {
-      is = text_by t rcdata (drop at s) ∙ rw none (ap₂ (λ x y. taken (slice x) y) p.is behind);
+      is = text_by t rcdata (drop at s) ∙ rw none (ap₂ (λ x y. taken (slice x) y) p.is after);
       inside = record { ordered = p.forward; from_boundary = starts; to_boundary = ends };
       boundary = ends;
     }

@@ -3,7 +3,7 @@ use Rattle.std.proofs.Common.{◌≡◌, ℕ, zero, suc, ◌+◌, ◌<◌, Bool,
 use Rattle.std.specs.Char.{is_ascii_digit}
 use Rattle.std.proofs.lemmas.Bool.{or_from}
 use Rattle.std.proofs.lemmas.Bool.Decides.{Decides-eqb}
-use Rattle.hm_base.specs.Bytes.{all_pass, behind, front, head_is, is_digit, is_space, lower, some_passes}
+use Rattle.hm_base.specs.Bytes.{all_pass, rest_after, front, head_is, is_digit, is_space, lower, some_passes}
 use Rattle.hm_base.specs.Forms.{is_small, is_tag_byte, is_tag_name}
 use Rattle.hm_base.specs.RawText.{is_name_end}
 use Rattle.hm_refs.proofs.Digits.{digit_is}
@@ -145,24 +145,24 @@ front_small (c ∷ s) h = rw (small_stays c h) h
 module _ (q : ℕ → Bool) (stays : (c : ℕ) → is_tag_byte c ≡ true → q c ≡ true) where
   record SameFront (s : List ℕ) : Type 0 where
     front_is : front q s ≡ front is_tag_byte s
-    behind_is : behind q s ≡ behind is_tag_byte s
+    rest_after_is : rest_after q s ≡ rest_after is_tag_byte s
 
-  same_front : (s : List ℕ) → head_is q (behind is_tag_byte s) ≡ false → SameFront s
-  same_front [] h = record { front_is = refl; behind_is = refl }
+  same_front : (s : List ℕ) → head_is q (rest_after is_tag_byte s) ≡ false → SameFront s
+  same_front [] h = record { front_is = refl; rest_after_is = refl }
   same_front (c ∷ s) h = by_test (is_tag_byte c) refl h (same_front s)
     where
-      by_test : (b : Bool) → is_tag_byte c ≡ b → head_is q (cond b (behind is_tag_byte s) (c ∷ s)) ≡ false → (head_is q (behind is_tag_byte s) ≡ false → SameFront s) → SameFront (c ∷ s)
+      by_test : (b : Bool) → is_tag_byte c ≡ b → head_is q (cond b (rest_after is_tag_byte s) (c ∷ s)) ≡ false → (head_is q (rest_after is_tag_byte s) ≡ false → SameFront s) → SameFront (c ∷ s)
       by_test true e h more =
           let in_q : q c ≡ true = stays c e in
           let rest : SameFront s = more h in
-          record { front_is = rw (in_q, e) (ap (λ r. c ∷ r) rest.front_is); behind_is = rw (in_q, e) rest.behind_is }
-      by_test false e h more = record { front_is = rw (h, e) refl; behind_is = rw (h, e) refl }
+          record { front_is = rw (in_q, e) (ap (λ r. c ∷ r) rest.front_is); rest_after_is = rw (in_q, e) rest.rest_after_is }
+      by_test false e h more = record { front_is = rw (h, e) refl; rest_after_is = rw (h, e) refl }
 
   same_ends : (s : List ℕ) (from to : ℕ) → IsEndOf is_tag_byte s from to → to < length s → q (slice_index s to) ≡ false → IsEndOf q s from to
   same_ends s from to e low stops =
-      let next : head_is q (behind is_tag_byte (drop from s)) ≡ false = ap (head_is q) e.behind ∙ head_at q s to low ∙ stops in
+      let next : head_is q (rest_after is_tag_byte (drop from s)) ≡ false = ap (head_is q) e.after ∙ head_at q s to low ∙ stops in
       let same : SameFront (drop from s) = same_front (drop from s) next in
-      record { forward = e.forward; inside = e.inside; front = same.front_is ∙ e.front; behind = same.behind_is ∙ e.behind; stops = λ l. stops }
+      record { forward = e.forward; inside = e.inside; front = same.front_is ∙ e.front; after = same.rest_after_is ∙ e.after; stops = λ l. stops }
 
 pub plain_ends : (s : List ℕ) (from to : ℕ) → IsEndOf is_tag_byte s from to → to < length s → is_name_byte (slice_index s to) ≡ false → IsEndOf is_name_byte s from to
 plain_ends s from to e low stops = same_ends is_name_byte stays_in_name s from to e low stops

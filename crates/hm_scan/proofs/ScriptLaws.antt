@@ -2,7 +2,7 @@
 use Rattle.std.proofs.Common.{◌≡◌, ℕ, suc, ◌+◌, ◌≤◌, ◌<◌, Bool, true, false, cond, List, [], ◌∷◌, ◌++◌, map, length, take, drop, Option, Some, None, refl, sym, ap, subst, ◌∙◌, arith, codes, length-append, lit<}
 use Rattle.std.proofs.lemmas.List.{length-take-le, take-append-drop, take_at, drop_at, length-map}
 use Rattle.hm_base.specs.Bytes.{strip, strip_word, lower}
-use Rattle.hm_base.specs.RawText.{is_found, is_found_whole, begins_end_tag, mark_at, Mark, opens_comment, closes_comment, opens_script, closes_script, with_mark, marks_from, ScriptState, unescaped, escaped, double_escaped, state_behind, ends_script, first_end, script_end}
+use Rattle.hm_base.specs.RawText.{is_found, is_found_whole, begins_end_tag, mark_at, Mark, opens_comment, closes_comment, opens_script, closes_script, with_mark, marks_from, ScriptState, unescaped, escaped, double_escaped, state_after, ends_script, first_end, script_end}
 use Rattle.hm_tree.specs.Tokens.{taken, slice, Extends}
 use Rattle.hm_scan.specs.Pieces.{slice_up_to}
 use Rattle.hm_scan.specs.RawTexts.{read_script}
@@ -53,9 +53,9 @@ first_bound st i n (c ∷ s) found = either (mark_at (c ∷ s)) found (λ next. 
     either None f more = omega (arith, more st f)
     either (Some k) f more = ended (ends_script st k) f
       where
-        ended : (b : Bool) → cond b (Some i) (first_end (state_behind st k) (marks_from (suc i) s)) ≡ Some n → i ≤ n
+        ended : (b : Bool) → cond b (Some i) (first_end (state_after st k) (marks_from (suc i) s)) ≡ Some n → i ≤ n
         ended true g = let same : i ≡ n = cc in omega arith
-        ended false g = omega (arith, more (state_behind st k) g)
+        ended false g = omega (arith, more (state_after st k) g)
 
 -- the end of a script is an end tag
 closes : (st : ScriptState) (k : Mark) → ends_script st k ≡ true → k ≡ closes_script
@@ -88,18 +88,18 @@ pub first_found : (st : ScriptState) (i n : ℕ) (s : List ℕ) → first_end st
 first_found st i n [] found = cc
 first_found st i n (c ∷ s) found = either (mark_at (c ∷ s)) refl found (λ next. first_found next (suc i) n s)
   where
-    behind_first : ((k : ℕ) × (n ≡ suc i + k) × (k < length s) × (ends (drop k s) ≡ true)) → (k : ℕ) × (n ≡ i + k) × (k < length (c ∷ s)) × (ends (drop k (c ∷ s)) ≡ true)
-    behind_first q = (suc q.0, omega (arith, q.1), omega (arith, q.2), q.3)
+    after_first_byte : ((k : ℕ) × (n ≡ suc i + k) × (k < length s) × (ends (drop k s) ≡ true)) → (k : ℕ) × (n ≡ i + k) × (k < length (c ∷ s)) × (ends (drop k (c ∷ s)) ≡ true)
+    after_first_byte q = (suc q.0, omega (arith, q.1), omega (arith, q.2), q.3)
 
     either : (m : Option Mark) → mark_at (c ∷ s) ≡ m → first_end st (with_mark m i (marks_from (suc i) s)) ≡ Some n
         → ((next : ScriptState) → first_end next (marks_from (suc i) s) ≡ Some n → (k : ℕ) × (n ≡ suc i + k) × (k < length s) × (ends (drop k s) ≡ true))
         → (k : ℕ) × (n ≡ i + k) × (k < length (c ∷ s)) × (ends (drop k (c ∷ s)) ≡ true)
-    either None e f more = behind_first (more st f)
+    either None e f more = after_first_byte (more st f)
     either (Some k) e f more = ended (ends_script st k) refl f
       where
-        ended : (b : Bool) → ends_script st k ≡ b → cond b (Some i) (first_end (state_behind st k) (marks_from (suc i) s)) ≡ Some n → (j : ℕ) × (n ≡ i + j) × (j < length (c ∷ s)) × (ends (drop j (c ∷ s)) ≡ true)
+        ended : (b : Bool) → ends_script st k ≡ b → cond b (Some i) (first_end (state_after st k) (marks_from (suc i) s)) ≡ Some n → (j : ℕ) × (n ≡ i + j) × (j < length (c ∷ s)) × (ends (drop j (c ∷ s)) ≡ true)
         ended true g h = let same : i ≡ n = cc in (0, omega arith, omega arith, mark_ends (c ∷ s) (e ∙ ap Some (closes st k g)))
-        ended false g h = behind_first (more (state_behind st k) h)
+        ended false g h = after_first_byte (more (state_after st k) h)
 
 -- at an end tag a script ends now or further on
 ends_now : (st : ScriptState) (i : ℕ) (s : List ℕ) → ends s ≡ true → ends_script st closes_script ≡ true → first_end st (marks_from i s) ≡ Some i
@@ -111,7 +111,7 @@ state_at_end : (st : ScriptState) (i : ℕ) (s : List ℕ) → ends s ≡ true �
 state_at_end st i [] h found = cc
 state_at_end st i (c ∷ s) h found = by_state st (rw (mark_of_end (c ∷ s) h) at found)
   where
-    by_state : (st : ScriptState) → cond (ends_script st closes_script) (Some i) (first_end (state_behind st closes_script) (marks_from (suc i) s)) ≡ Some i → ends_script st closes_script ≡ true
+    by_state : (st : ScriptState) → cond (ends_script st closes_script) (Some i) (first_end (state_after st closes_script) (marks_from (suc i) s)) ≡ Some i → ends_script st closes_script ≡ true
     by_state unescaped f = refl
     by_state escaped f = refl
     by_state double_escaped f = let late : suc i ≤ i = first_bound escaped (suc i) i s f in absurd (omega arith)
@@ -138,8 +138,8 @@ module _ (e e' : List ℕ) (ends_e : ends e ≡ true) (ends_e' : ends e' ≡ tru
           → first_end st (with_mark m i (marks_from (suc i) (t ++ e'))) ≡ Some n
       either None f more = more st f
       either (Some k) f more =
-          elim (ends_script st k) as (λ b. cond b (Some i) (first_end (state_behind st k) (marks_from (suc i) (t ++ e))) ≡ Some n → cond b (Some i) (first_end (state_behind st k) (marks_from (suc i) (t ++ e'))) ≡ Some n)
-          [ true ↦ λ g. g | false ↦ λ g. more (state_behind st k) g ] f
+          elim (ends_script st k) as (λ b. cond b (Some i) (first_end (state_after st k) (marks_from (suc i) (t ++ e))) ≡ Some n → cond b (Some i) (first_end (state_after st k) (marks_from (suc i) (t ++ e'))) ≡ Some n)
+          [ true ↦ λ g. g | false ↦ λ g. more (state_after st k) g ] f
 
 -- the text before the end tag is read
 pub script_read : (t e e' : List ℕ) → ends e' ≡ true → script_end (t ++ e) ≡ Some (length t) → read_script (t ++ e') ≡ taken (slice t) e'

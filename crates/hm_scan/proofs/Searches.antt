@@ -11,7 +11,7 @@ use Rattle.hm_scan.specs.Found.{IsFound, IsMarkEnd}
 use Rattle.hm_scan.proofs.Cuts.{cut_at_where}
 
 -- the cut at the first place where ends finds something
-pub cut_first : (ends : List ℕ → Option (List ℕ)) (s : List ℕ) (n : ℕ) (r : List ℕ) → n < length s → ((k : ℕ) → k < n → ends (drop k s) ≡ None) → ends (drop n s) ≡ Some r → cut_where ends s ≡ Some (record { before = take n s; behind = r })
+pub cut_first : (ends : List ℕ → Option (List ℕ)) (s : List ℕ) (n : ℕ) (r : List ℕ) → n < length s → ((k : ℕ) → k < n → ends (drop k s) ≡ None) → ends (drop n s) ≡ Some r → cut_where ends s ≡ Some (record { before = take n s; after = r })
 cut_first ends [] n r h none found = absurd (omega arith)
 cut_first ends (c ∷ s) zero r h none found = rw found refl
 cut_first ends (c ∷ s) (suc n) r h none found =
@@ -65,7 +65,7 @@ one_passes s m k o = (Decides-eqb (get_or s k 0) m).1 (rw add-zero at (o.reads 0
 
 -- the piece up to the first end
 pub found_end : (ends : List ℕ → Option (List ℕ)) (s : List ℕ) (from to n : ℕ) → from ≤ to → to ≤ length s → ((k : ℕ) → from ≤ k → k < to → ends (drop k s) ≡ None)
-    → IsMarkEnd ends (drop to s) n → IsFound s from (cut_where ends (drop from s)) (record { from = from; to = to; behind = to + n })
+    → IsMarkEnd ends (drop to s) n → IsFound s from (cut_where ends (drop from s)) (record { from = from; to = to; after = to + n })
 found_end ends s from to n low high none end =
     let long : length (drop to s) ≡ length s - to = length-drop to s in
     let fits : n ≤ length s - to = subst (λ m. n ≤ m) long end.inside in
@@ -94,7 +94,7 @@ no_end ends s from none =
 -- the piece up to a mark, by its first place after `from`
 pub found_piece : (s mark : List ℕ) (from k : ℕ) → OccursAt (drop from s) mark k → ((j : ℕ) → j < k → OccursAt (drop from s) mark j → ⊥)
     → 0 < length mark → get_or mark 0 0 < 128 → get_or mark (length mark - 1) 0 < 128 → from ≤ length s
-    → IsFound s from (cut_at mark (drop from s)) (record { from = from; to = from + k; behind = from + k + length mark })
+    → IsFound s from (cut_at mark (drop from s)) (record { from = from; to = from + k; after = from + k + length mark })
 found_piece s mark from k o none some first last inside =
     let long : length (drop from s) ≡ length s - from = length-drop from s in
     let fits : k + length mark ≤ length s - from = subst (λ n. k + length mark ≤ n) long o.fits in
@@ -119,7 +119,7 @@ found_none s mark from none = cut_at_where mark (drop from s) ∙ cut_none (stri
 
 -- what a search for a byte finds
 pub byte_piece : (s : List ℕ) (m from k : ℕ) → m < 128 → from ≤ length s → IsFirstByte (is_byte m) (drop from s) (Some k)
-    → IsFound s from (cut_at (m ∷ []) (drop from s)) (record { from = from; to = from + k; behind = from + k + 1 })
+    → IsFound s from (cut_at (m ∷ []) (drop from s)) (record { from = from; to = from + k; after = from + k + 1 })
 byte_piece s m from k ascii inside h =
     found_piece s (m ∷ []) from k (one_occurs (drop from s) m k h.0.high h.1) (λ j l o. h.0.before j (omega arith) l (one_passes (drop from s) m j o)) (omega arith) ascii ascii inside
 

@@ -32,14 +32,14 @@ read_cut t keeps s from at attrs c r none = r.cut ∙ ap (with_attributes r.writ
     all_none [] = refl
     all_none (a ∷ written) = ap (with_attribute a) (all_none written)
 
-pub read_end : (t : List Entry) (keeps : Bool) (s : List ℕ) (from at behind : ℕ) (slash : Bool) (attrs : List Attribute) (c : Collected) → IsReadTo t keeps s from at attrs c → IsTagEnd s at slash behind
-    → IsTagBody t keeps s from attrs (record { collected = c; slash = slash; behind = behind })
-read_end t keeps s from at behind slash attrs c r e =
+pub read_end : (t : List Entry) (keeps : Bool) (s : List ℕ) (from at following : ℕ) (slash : Bool) (attrs : List Attribute) (c : Collected) → IsReadTo t keeps s from at attrs c → IsTagEnd s at slash following
+    → IsTagBody t keeps s from attrs (record { collected = c; slash = slash; after = following })
+read_end t keeps s from at following slash attrs c r e =
     let low : from ≤ at = r.forward in
-    let next : at < behind = e.forward in
+    let next : at < following = e.forward in
     record {
-      tag = record { attributes = r.written ++ []; slash = slash; rest = drop behind s };
-      is = r.cut ∙ ap (with_attributes r.written) e.cut ∙ with_all r.written (record { attributes = []; slash = slash; rest = drop behind s });
+      tag = record { attributes = r.written ++ []; slash = slash; rest = drop following s };
+      is = r.cut ∙ ap (with_attributes r.written) e.cut ∙ with_all r.written (record { attributes = []; slash = slash; rest = drop following s });
       slash = refl;
       rest = refl;
       kept = r.kept;
@@ -49,16 +49,16 @@ read_end t keeps s from at behind slash attrs c r e =
     }
 
 pub read_more : (t : List Entry) (keeps : Bool) (s : List ℕ) (from at start : ℕ) (a : places.WrittenAttribute) (before after : List Attribute) (old new : Collected) → IsReadTo t keeps s from at before old → IsPair s at start a → new.keeps ≡ old.keeps
-    → ((written : List Attribute) → IsCollected t written old before → IsCollected t (written ++ written_in s start a ∷ []) new after) → IsReadTo t keeps s from a.value.behind after new
+    → ((written : List Attribute) → IsCollected t written old before → IsCollected t (written ++ written_in s start a ∷ []) new after) → IsReadTo t keeps s from a.value.after after new
 read_more t keeps s from at start a before after old new r p same takes =
     let low : from ≤ at = r.forward in
     let next : at ≤ start = p.forward in
     let name : start < a.name_to = p.is.forward in
-    let behind : a.name_to ≤ a.value.behind = p.is.behind in
+    let following : a.name_to ≤ a.value.after = p.is.after in
     let count : length r.written ≤ at = r.few in
     record {
       written = r.written ++ written_in s start a ∷ [];
-      cut = r.cut ∙ ap (with_attributes r.written) p.cut ∙ sym (with_push r.written (written_in s start a) (cut_tag (drop a.value.behind s)));
+      cut = r.cut ∙ ap (with_attributes r.written) p.cut ∙ sym (with_push r.written (written_in s start a) (cut_tag (drop a.value.after s)));
       kept = same ∙ r.kept;
       collected = takes r.written r.collected;
       few = simp length-append (omega arith);

@@ -5,7 +5,7 @@ use Rattle.std.proofs.lemmas.Str.{IsCharBoundary-after_ascii}
 use Rattle.std.proofs.lemmas.List.{drop-drop, take-append-drop}
 use Rattle.std.proofs.lemmas.Bool.{and_parts, cases_lt}
 use Rattle.std.proofs.lemmas.Bool.Decides.{Decides-eqb}
-use Rattle.hm_base.specs.Bytes.{behind, all_pass, head_is, is_space}
+use Rattle.hm_base.specs.Bytes.{rest_after, all_pass, head_is, is_space}
 use Rattle.hm_base.specs.Walks as walks
 use Rattle.hm_scan.specs.Tags.{is_tag_end, attribute_at, CutTag, with_attribute, with_slash, tag_from, cut_tag}
 use Rattle.hm_refs.specs.Reads.{IsEndOf}
@@ -131,9 +131,9 @@ no_end_byte c never = elim (c == 62) as (λ b. (c == 62) ≡ b → b ≡ false) 
 -- an attribute at the start
 pair_cut : (c : ℕ) (r rest : List ℕ) (a : walks.Attribute) → is_gap_byte c ≡ false → is_tag_end c ≡ false → attribute_at c r ≡ record { attribute = a; rest = rest } → drop (length r - length rest) r ≡ rest
     → cut_tag (c ∷ r) ≡ with_attribute a (cut_tag rest)
-pair_cut c r rest a gap no_end is behind =
+pair_cut c r rest a gap no_end is rest_after =
     let both = no_gap c gap in
-    rw (no_end, both.1, both.0, is) (ap (with_attribute a) (skipped (length r - length rest) r ∙ ap cut_tag behind))
+    rw (no_end, both.1, both.0, is) (ap (with_attribute a) (skipped (length r - length rest) r ∙ ap cut_tag rest_after))
 
 -- no '/' stands before '>'
 unflagged : (b : Bool) (s : List ℕ) (c : ℕ) (r : List ℕ) (o : Option CutTag) → s ≡ c ∷ r → is_tag_end c ≡ false → with_slash (b && head_is is_tag_end s) o ≡ o
@@ -147,17 +147,17 @@ pair_is s from at a u b e h no_end is =
     let stop : is_gap_byte c ≡ false = e.stops h in
     let no_gt : is_tag_end c ≡ false = no_end_byte c no_end in
     let low : at < a.name_to = is.forward in
-    let middle : a.name_to ≤ a.value.behind = is.behind in
-    let high : a.value.behind ≤ length s = is.rest.0 in
-    let long : length r - length (drop a.value.behind s) ≡ a.value.behind - (at + 1) = simp length-drop (omega arith) in
-    let there : (at + 1) + (a.value.behind - (at + 1)) ≡ a.value.behind = omega arith in
-    let behind : drop (length r - length (drop a.value.behind s)) r ≡ drop a.value.behind s =
-    ap (λ n. drop n r) long ∙ drop-drop (a.value.behind - (at + 1)) (at + 1) s ∙ ap (λ n. drop n s) there in
+    let middle : a.name_to ≤ a.value.after = is.after in
+    let high : a.value.after ≤ length s = is.rest.0 in
+    let long : length r - length (drop a.value.after s) ≡ a.value.after - (at + 1) = simp length-drop (omega arith) in
+    let there : (at + 1) + (a.value.after - (at + 1)) ≡ a.value.after = omega arith in
+    let rest_after : drop (length r - length (drop a.value.after s)) r ≡ drop a.value.after s =
+    ap (λ n. drop n r) long ∙ drop-drop (a.value.after - (at + 1)) (at + 1) s ∙ ap (λ n. drop n s) there in
     record {
       cut = gap_cut s from at e
           ∙ unflagged (nat_lt from at && (get_or s (at - 1) 0 == 47)) (drop at s) c r (cut_tag (drop at s)) cut no_gt
           ∙ ap cut_tag cut
-          ∙ pair_cut c r (drop a.value.behind s) (written_in s at a) stop no_gt is.is behind;
+          ∙ pair_cut c r (drop a.value.after s) (written_in s at a) stop no_gt is.is rest_after;
       forward = e.forward;
       starts = gap_ends s from at u b e;
       is = is;

@@ -63,8 +63,8 @@ tag_begins s at h =
       some = λ e. let some : 0 < length b.more = b.some (sym (second_is s at b) ∙ e) in omega arith;
     }
 
-behind_first : (s r : List ℕ) (at c : ℕ) → drop at s ≡ c ∷ r → drop (at + 1) s ≡ r
-behind_first s r at c e = sym (drop-drop 1 at s) ∙ ap (drop 1) e
+after_first_byte : (s r : List ℕ) (at c : ℕ) → drop at s ≡ c ∷ r → drop (at + 1) s ≡ r
+after_first_byte s r at c e = sym (drop-drop 1 at s) ∙ ap (drop 1) e
 
 pub end_reads : (t : List Entry) (s : List ℕ) (at : ℕ) → begins_tag (drop at s) ≡ true → get_or s (at + 1) 0 ≡ 47 → read_tag t (drop at s) ≡ read_end (drop (at + 2) s)
 unfolding read_tag
@@ -78,7 +78,7 @@ pub start_reads : (t : List Entry) (s : List ℕ) (at : ℕ) → begins_tag (dro
 unfolding read_tag
 start_reads t s at h never =
     let b : Beginning (drop at s) = beginning (drop at s) h in
-    let rest : drop (at + 1) s ≡ b.second ∷ b.more = behind_first s (b.second ∷ b.more) at 60 b.is in
+    let rest : drop (at + 1) s ≡ b.second ∷ b.more = after_first_byte s (b.second ∷ b.more) at 60 b.is in
     let other : (47 == b.second) ≡ false = elim (47 == b.second) as (λ x. (47 == b.second) ≡ x → x ≡ false) [ true ↦ λ e. absurd (never (second_is s at b ∙ sym ((Decides-eqb 47 b.second).0 e))) | false ↦ λ e. refl ] refl in
     ap (read_tag t) b.is ∙ rw other refl ∙ ap (read_start t) (sym rest)
 

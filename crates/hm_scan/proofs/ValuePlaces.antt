@@ -7,8 +7,8 @@ use Rattle.std.proofs.lemmas.Bool.Decides.{Decides-eqb}
 use Rattle.memchr.specs.Find.{IsFirstByte, Nowhere, Passes, is_byte}
 use Rattle.hm_refs.specs.Names.{Entry}
 use Rattle.hm_scan.specs.Values.{reference_at, read_value}
-use Rattle.hm_base.specs.Bytes.{front, behind, is_space}
-use Rattle.hm_scan.specs.Tags.{is_later_byte, is_unquoted_byte, is_inside, is_quote, cut_behind, cut_quoted, cut_value, cut_assigned, named, attribute_at}
+use Rattle.hm_base.specs.Bytes.{front, rest_after, is_space}
+use Rattle.hm_scan.specs.Tags.{is_later_byte, is_unquoted_byte, is_inside, is_quote, cut_after, cut_quoted, cut_value, cut_assigned, named, attribute_at}
 use Rattle.hm_refs.specs.Reads.{IsEndOf}
 use Rattle.hm_refs.proofs.RunEnds.{rest_cons}
 use Rattle.hm_scan.specs.TagPlaces.{IsCutAt, IsAttributeAt, IsOrdinaryName}
@@ -18,7 +18,7 @@ use Rattle.hm_scan.proofs.Boundaries.{later_ends, unquoted_ends}
 
 -- the prefix up to the first byte that doesn't pass
 front_first : (p : ℕ → Bool) (s : List ℕ) (n : ℕ) → n < length s → ((k : ℕ) → k < n → p (get_or s k 0) ≡ true) → p (get_or s n 0) ≡ false
-    → (front p s ≡ take n s) × (behind p s ≡ drop n s)
+    → (front p s ≡ take n s) × (rest_after p s ≡ drop n s)
 front_first p [] n h all stop = absurd (omega arith)
 front_first p (c ∷ s) zero h all stop = rw stop (refl, refl)
 front_first p (c ∷ s) (suc n) h all stop =
@@ -26,7 +26,7 @@ front_first p (c ∷ s) (suc n) h all stop =
     let more = front_first p s n (omega arith) (λ k l. all (suc k) (omega arith)) stop in
     rw first (ap (λ r. c ∷ r) more.0, more.1)
 
-front_whole : (p : ℕ → Bool) (s : List ℕ) → ((k : ℕ) → k < length s → p (get_or s k 0) ≡ true) → (front p s ≡ s) × (behind p s ≡ [])
+front_whole : (p : ℕ → Bool) (s : List ℕ) → ((k : ℕ) → k < length s → p (get_or s k 0) ≡ true) → (front p s ≡ s) × (rest_after p s ≡ [])
 front_whole p [] all = (refl, refl)
 front_whole p (c ∷ s) all =
     let first : p c ≡ true = all 0 (omega arith) in
@@ -64,7 +64,7 @@ plain_front t (c ∷ s) (suc n) none =
 
 pub quoted_found : (s : List ℕ) (q from n : ℕ) (plain : Bool) → IsUtf8 s → is_quote q ≡ true → IsCharBoundary s from → IsFirstByte (is_byte q) (drop from s) (Some n)
     → (plain ≡ true → Nowhere (Passes (is_byte 38) (drop from s)) 0 n)
-    → IsCutAt (cut_quoted q (drop from s)) s (record { from = from; to = from + n; behind = from + n + 1; plain = plain })
+    → IsCutAt (cut_quoted q (drop from s)) s (record { from = from; to = from + n; after = from + n + 1; plain = plain })
 quoted_found s q from n plain u is_q b (none, there) no_amp =
     let rest = drop from s in
     let inside : n < length s - from = subst (λ m. n < m) (length-drop from s) none.high in
@@ -74,7 +74,7 @@ quoted_found s q from n plain u is_q b (none, there) no_amp =
     let long : from + n - from ≡ n = omega arith in
     record {
       before = both.0 ∙ ap (λ m. take m rest) (sym long);
-      behind = ap (drop 1) both.1 ∙ ap (drop 1) (drop-drop n from s) ∙ drop-drop 1 (from + n) s;
+      after = ap (drop 1) both.1 ∙ ap (drop 1) (drop-drop n from s) ∙ drop-drop 1 (from + n) s;
       ordered = omega arith;
       forward = omega arith;
       starts = b;
@@ -84,13 +84,13 @@ quoted_found s q from n plain u is_q b (none, there) no_amp =
     }
 
 pub quoted_missing : (s : List ℕ) (q from : ℕ) → IsCharBoundary s from → IsFirstByte (is_byte q) (drop from s) None
-    → IsCutAt (cut_quoted q (drop from s)) s (record { from = from; to = length s; behind = length s; plain = false })
+    → IsCutAt (cut_quoted q (drop from s)) s (record { from = from; to = length s; after = length s; plain = false })
 quoted_missing s q from b none =
     let rest = drop from s in
     let both = front_whole (is_inside q) rest (λ k l. inside_if q (get_or rest k 0) (none k (omega arith) l)) in
     record {
       before = both.0 ∙ sym (rest_all s from);
-      behind = ap (drop 1) both.1 ∙ sym (drop_of_length-le s (omega arith));
+      after = ap (drop 1) both.1 ∙ sym (drop_of_length-le s (omega arith));
       ordered = b.0;
       forward = omega arith;
       starts = b;
@@ -105,13 +105,13 @@ take_none (suc n) = refl
 
 -- what begins with no quote
 pub unquoted_at : (s : List ℕ) (from to : ℕ) → IsCharBoundary s from → from < length s → is_quote (get_or s from 0) ≡ false → IsEndOf is_unquoted_byte s from to
-    → IsCutAt (cut_value (drop from s)) s (record { from = from; to = to; behind = to; plain = false })
+    → IsCutAt (cut_value (drop from s)) s (record { from = from; to = to; after = to; plain = false })
 unquoted_at s from to b h none e =
-    let cut : cut_value (drop from s) ≡ cut_behind is_unquoted_byte (drop from s) = rw (rest_cons s from h) (rw none refl) in
+    let cut : cut_value (drop from s) ≡ cut_after is_unquoted_byte (drop from s) = rw (rest_cons s from h) (rw none refl) in
     let ends = unquoted_ends s from to e in
     record {
       before = ap (λ k. k.before) cut ∙ e.front;
-      behind = ap (λ k. k.behind) cut ∙ e.behind;
+      after = ap (λ k. k.after) cut ∙ e.after;
       ordered = e.forward;
       forward = omega arith;
       starts = b;
@@ -127,11 +127,11 @@ quoted_at s from v h is_q e =
 
 -- a value after '=' and whitespace
 pub assigned_at : (s : List ℕ) (from equals at : ℕ) (v : Value) → IsEndOf is_space s from equals → equals < length s → get_or s equals 0 ≡ 61 → IsEndOf is_space s (equals + 1) at
-    → IsCutAt (cut_value (drop at s)) s v → IsCutAt (cut_assigned (drop from s) (behind is_space (drop from s))) s v
+    → IsCutAt (cut_value (drop at s)) s v → IsCutAt (cut_assigned (drop from s) (rest_after is_space (drop from s))) s v
 assigned_at s from equals at v e h is f k =
     let same : (get_or s equals 0 == 61) ≡ true = (Decides-eqb (get_or s equals 0) 61).1 is in
-    let cut : cut_assigned (drop from s) (behind is_space (drop from s)) ≡ cut_value (drop at s) =
-    ap (cut_assigned (drop from s)) (e.behind ∙ rest_cons s equals h) ∙ rw same (ap cut_value f.behind) in
+    let cut : cut_assigned (drop from s) (rest_after is_space (drop from s)) ≡ cut_value (drop at s) =
+    ap (cut_assigned (drop from s)) (e.after ∙ rest_cons s equals h) ∙ rw same (ap cut_value f.after) in
     rw cut k
 
 -- a part of a list by its first byte and the others
@@ -143,17 +143,17 @@ range_cons s at to h low =
 -- a whole attribute
 pub attribute_is : (s : List ℕ) (at : ℕ) (a : WrittenAttribute) → at < length s → IsEndOf is_later_byte s (at + 1) a.name_to
     → (a.plain ≡ true → IsOrdinaryName (slice_range s at a.name_to))
-    → IsCutAt (cut_assigned (drop a.name_to s) (behind is_space (drop a.name_to s))) s a.value → a.name_to ≤ a.value.behind → IsAttributeAt s at a
+    → IsCutAt (cut_assigned (drop a.name_to s) (rest_after is_space (drop a.name_to s))) s a.value → a.name_to ≤ a.value.after → IsAttributeAt s at a
 unfolding attribute_at
 attribute_is s at a h e plain k forward =
     let name : slice_range s at a.name_to ≡ get_or s at 0 ∷ slice_range s (at + 1) a.name_to = range_cons s at a.name_to h (omega (arith, e.forward)) in
     record {
-      is = ap₂ named (ap (λ r. get_or s at 0 ∷ r) e.front ∙ sym name) e.behind
-          ∙ ap₂ (λ v r. record { attribute = record { name = slice_range s at a.name_to; value = v }; rest = r }) k.before k.behind;
+      is = ap₂ named (ap (λ r. get_or s at 0 ∷ r) e.front ∙ sym name) e.after
+          ∙ ap₂ (λ v r. record { attribute = record { name = slice_range s at a.name_to; value = v }; rest = r }) k.before k.after;
       plain = plain;
       plain_value = k.plain;
       forward = omega (arith, e.forward);
-      behind = forward;
+      after = forward;
       ordered = k.ordered;
       name_ends = later_ends s (at + 1) a.name_to e;
       value_starts = k.starts;

@@ -116,10 +116,10 @@ next_is t s from amp r u p h is found =
     let some : 0 < r.len = found.some in
     let long : length (drop amp s) ≡ length s - amp = length-drop amp s in
     let short : r.len ≤ length (drop amp s) = found.inside in
-    let behind : drop (pred r.len) (drop (amp + 1) s) ≡ drop (amp + r.len) s = let one : suc (pred r.len) ≡ r.len = after_pred r.len some in drop-drop (pred r.len) (amp + 1) s ∙ ap (λ n. drop n s) (omega arith) in
+    let after : drop (pred r.len) (drop (amp + 1) s) ≡ drop (amp + r.len) s = let one : suc (pred r.len) ≡ r.len = after_pred r.len some in drop-drop (pred r.len) (amp + 1) s ∙ ap (λ n. drop n s) (omega arith) in
     let last : get_or (drop amp s) (r.len - 1) 0 ≡ get_or s (amp + r.len - 1) 0 = get_or-drop amp s (r.len - 1) 0 ∙ ap (λ n. get_or s n 0) (omega arith) in
     record {
-      read = p.read ∙ ap (λ x. slice_range s from amp ++ x) (ap (read_value t) cut ∙ rw there (ap (λ x. encode_utf8_all (points_list r.points) ++ x) (skipped t (pred r.len) (drop (amp + 1) s) ∙ ap (read_value t) behind)));
+      read = p.read ∙ ap (λ x. slice_range s from amp ++ x) (ap (read_value t) cut ∙ rw there (ap (λ x. encode_utf8_all (points_list r.points) ++ x) (skipped t (pred r.len) (drop (amp + 1) s) ∙ ap (read_value t) after)));
       forward = p.forward;
       some = some;
       starts = IsCharBoundary-before_ascii s amp h (omega arith);

@@ -1,18 +1,18 @@
 -- A written tag is read as its name and its attributes.
 use Rattle.std.proofs.Common.{◌≡◌, ℕ, ◌-◌, Bool, true, false, not, ◌&&◌, ◌||◌, ◌==◌, List, [], ◌∷◌, ◌++◌, map, length, Option, refl, sym, ap, ap₂, subst, ◌∙◌, append_assoc, arith, length-append}
 use Rattle.std.proofs.lemmas.Bool.{and_parts}
-use Rattle.hm_base.specs.Bytes.{behind, head_is, is_space, lower, all_pass, is_null}
+use Rattle.hm_base.specs.Bytes.{rest_after, head_is, is_space, lower, all_pass, is_null}
 use Rattle.hm_base.specs.RawText.{is_name_end}
 use Rattle.hm_base.specs.Forms.{is_blank, is_attribute_name}
 use Rattle.hm_base.specs.Walks.{Attribute}
 use Rattle.hm_refs.specs.Names.{Entry}
 use Rattle.hm_markup_spec.specs.Gaps.{is_gap}
-use Rattle.hm_markup_spec.specs.Tags.{Form, bare, unquoted, double, single, parts_attributes, IsAssigned, WritesAttribute, WritesAttributes}
+use Rattle.hm_markup_spec.specs.Tags.{Quoting, bare, unquoted, double, single, parts_attributes, IsAssigned, WritesAttribute, WritesAttributes}
 use Rattle.hm_scan.specs.Values.{read_value}
 use Rattle.hm_scan.specs.Tags.{is_name_byte, is_later_byte, is_unquoted_byte, is_inside, is_quote, is_tag_end, cut_quoted, cut_value, cut_assigned, with_name, named, attribute_at, CutTag, with_attribute, tag_from, cut_tag}
 use Rattle.hm_scan.specs.Reading.{is_bad_name, has_bad_name, read_attribute}
 use Rattle.hm_scan.specs.ReadBack.{is_unquoted, IsQuoted, IsUnquoted, WritesValue, are_attribute_names}
-use Rattle.hm_scan.proofs.Fronts.{front_all, behind_all}
+use Rattle.hm_scan.proofs.Fronts.{front_all, after_all}
 use Rattle.hm_scan.proofs.Cases.{differs, IsPlain, IsWrittenAttribute, attribute_name_written}
 
 no_space_in : (c : ℕ) → is_later_byte c ≡ true → is_space c ≡ false
@@ -63,10 +63,10 @@ tag_attribute c xs s a plain e =
 
 name_cut : (c : ℕ) (ws r : List ℕ) → all_pass is_later_byte ws ≡ true → head_is is_later_byte r ≡ false → attribute_at c (ws ++ r) ≡ named (c ∷ ws) r
 unfolding attribute_at
-name_cut c ws r all stop = rw (front_all is_later_byte ws r all stop, behind_all is_later_byte ws r all stop) refl
+name_cut c ws r all stop = rw (front_all is_later_byte ws r all stop, after_all is_later_byte ws r all stop) refl
 
-quoted_cut : (q : ℕ) (v s : List ℕ) → is_inside q q ≡ false → all_pass (is_inside q) v ≡ true → cut_quoted q (v ++ q ∷ s) ≡ record { before = v; behind = s }
-quoted_cut q v s ends all = rw (front_all (is_inside q) v (q ∷ s) all ends, behind_all (is_inside q) v (q ∷ s) all ends) refl
+quoted_cut : (q : ℕ) (v s : List ℕ) → is_inside q q ≡ false → all_pass (is_inside q) v ≡ true → cut_quoted q (v ++ q ∷ s) ≡ record { before = v; after = s }
+quoted_cut q v s ends all = rw (front_all (is_inside q) v (q ∷ s) all ends, after_all (is_inside q) v (q ∷ s) all ends) refl
 
 -- `=` ends an attribute's name, and so does whitespace before it
 assigned_stops : (left r : List ℕ) → is_blank left ≡ true → head_is is_later_byte (left ++ 61 ∷ r) ≡ false
@@ -76,9 +76,9 @@ assigned_stops (g ∷ left) r blank = no_name_no_later g (space_no_name g (and_p
 assigned_cut : (name left right v : List ℕ) → is_blank left ≡ true → is_blank right ≡ true → head_is is_space v ≡ false
     → named name (left ++ 61 ∷ (right ++ v)) ≡ with_name name (cut_value v)
 assigned_cut name left right v left_blank right_blank stop =
-    let equals : behind is_space (left ++ 61 ∷ (right ++ v)) ≡ 61 ∷ (right ++ v) = behind_all is_space left (61 ∷ (right ++ v)) left_blank (unfold is_space in refl) in
+    let equals : rest_after is_space (left ++ 61 ∷ (right ++ v)) ≡ 61 ∷ (right ++ v) = after_all is_space left (61 ∷ (right ++ v)) left_blank (unfold is_space in refl) in
     ap (λ r. with_name name (cut_assigned (left ++ 61 ∷ (right ++ v)) r)) equals
-    ∙ ap (λ r. with_name name (cut_value r)) (behind_all is_space right v right_blank stop)
+    ∙ ap (λ r. with_name name (cut_value r)) (after_all is_space right v right_blank stop)
 
 -- what is written after an attribute's name, before s
 value_cut : (name v b s : List ℕ) (w : IsAssigned v b) → head_is is_space (v ++ s) ≡ false → named name (b ++ s) ≡ with_name name (cut_value (v ++ s))
@@ -92,8 +92,8 @@ value_stops v b s w =
     rw cut (assigned_stops w.left ((w.right ++ v) ++ s) w.left_blank)
 
 -- what may follow an attribute of this form, or the tag's name, which counts as bare
-abbrev pub Stops : Form → List ℕ → Type 0
-Stops bare s = (head_is is_name_byte s ≡ false) × ((c : ℕ) × (r : List ℕ) × (behind is_space s ≡ c ∷ r) × ((c == 61) ≡ false))
+abbrev pub Stops : Quoting → List ℕ → Type 0
+Stops bare s = (head_is is_name_byte s ≡ false) × ((c : ℕ) × (r : List ℕ) × (rest_after is_space s ≡ c ∷ r) × ((c == 61) ≡ false))
 Stops unquoted s = head_is is_unquoted_byte s ≡ false
 Stops double s = Unit {0}
 Stops single s = Unit {0}
@@ -120,13 +120,13 @@ unquoted_head (c ∷ v) s h = parts (is_quote c) (is_space c) (c == 62) (all_pas
     parts false false b r h = refl
     parts false true b r h = absurd (cc)
 
-unquoted_cut : (v s : List ℕ) → is_unquoted v ≡ true → head_is is_unquoted_byte s ≡ false → cut_value (v ++ s) ≡ record { before = v; behind = s }
+unquoted_cut : (v s : List ℕ) → is_unquoted v ≡ true → head_is is_unquoted_byte s ≡ false → cut_value (v ++ s) ≡ record { before = v; after = s }
 unfolding is_unquoted
 unquoted_cut [] s h stop = absurd (cc)
 unquoted_cut (c ∷ v) s h stop =
     let both = and_parts (not (is_quote c)) (all_pass is_unquoted_byte (c ∷ v)) h in
     let no_quote : is_quote c ≡ false = not_true (is_quote c) both.0 in
-    rw (no_quote, front_all is_unquoted_byte (c ∷ v) s both.1 stop, behind_all is_unquoted_byte (c ∷ v) s both.1 stop) refl
+    rw (no_quote, front_all is_unquoted_byte (c ∷ v) s both.1 stop, after_all is_unquoted_byte (c ∷ v) s both.1 stop) refl
   where
     not_true : (b : Bool) → not b ≡ true → b ≡ false
     not_true false h = refl
@@ -144,7 +144,7 @@ record IsValue (t : List Entry) (value b s : List ℕ) : Type 0 where
   read : read_value t written ≡ value
   stops : head_is is_later_byte (b ++ s) ≡ false
 
-value_read : (t : List Entry) (form : Form) (value b s : List ℕ) → WritesValue t form value b s → Stops form s → IsValue t value b s
+value_read : (t : List Entry) (form : Quoting) (value b s : List ℕ) → WritesValue t form value b s → Stops form s → IsValue t value b s
 value_read t bare value b s w stops = rw (w.0, w.1) (record {
   written = [];
   cut = λ name. rw stops.1.2 (rw stops.1.3 refl);
@@ -171,13 +171,13 @@ value_read t single value b s w stops = record {
 }
 
 -- whitespace where it is needed, and a byte that begins an attribute
-gap_stops : (before : Form) (gap : List ℕ) (c : ℕ) (r : List ℕ) → is_gap (parts_attributes true before) gap ≡ true → IsPlain c → Stops before (gap ++ c ∷ r)
+gap_stops : (before : Quoting) (gap : List ℕ) (c : ℕ) (r : List ℕ) → is_gap (parts_attributes true before) gap ≡ true → IsPlain c → Stops before (gap ++ c ∷ r)
 unfolding is_gap
 gap_stops bare [] c r h plain = absurd (cc)
 gap_stops bare (g ∷ gap) c r h plain =
     let blank = (and_parts (is_blank (g ∷ gap)) true h).0 in (
       space_no_name g (and_parts (is_space g) (is_blank gap) blank).0,
-      (c, r, behind_all is_space (g ∷ gap) (c ∷ r) blank (no_space_in c plain.later), plain.no_equals),
+      (c, r, after_all is_space (g ∷ gap) (c ∷ r) blank (no_space_in c plain.later), plain.no_equals),
     )
 gap_stops unquoted [] c r h plain = absurd (cc)
 gap_stops unquoted (g ∷ gap) c r h plain = space_no_unquoted g (and_parts (is_space g) (is_blank gap) (and_parts (is_blank (g ∷ gap)) true h).0).0
@@ -187,12 +187,12 @@ gap_stops single gap c r h plain = tt
 regrouped : (b gap name value s : List ℕ) (c : ℕ) (ws : List ℕ) → b ≡ gap ++ (name ++ value) → name ≡ c ∷ ws → b ++ s ≡ gap ++ c ∷ (ws ++ (value ++ s))
 regrouped b gap name value s c ws e f = rw (e, f) (simp append_assoc)
 
-attribute_stops : (t : List Entry) (before form : Form) (a : Attribute) (b s : List ℕ) (w : WritesAttribute (WritesValue t) true before form a b s) → is_attribute_name a.name ≡ true → Stops before (b ++ s)
+attribute_stops : (t : List Entry) (before form : Quoting) (a : Attribute) (b s : List ℕ) (w : WritesAttribute (WritesValue t) true before form a b s) → is_attribute_name a.name ≡ true → Stops before (b ++ s)
 attribute_stops t before form a b s w good =
     let name : IsWrittenAttribute w.name = attribute_name_written w.name (rw w.lowered good) in
     rw (regrouped b w.gap w.name w.value s name.first name.more w.is name.is) (gap_stops before w.gap name.first (name.more ++ (w.value ++ s)) w.apart name.plain)
 
-pub attributes_stop : (t : List Entry) (before last : Form) (attributes : List Attribute) (b s : List ℕ) → WritesAttributes (WritesValue t) true before last attributes b s → are_attribute_names attributes ≡ true → Stops last s → Stops before (b ++ s)
+pub attributes_stop : (t : List Entry) (before last : Quoting) (attributes : List Attribute) (b s : List ℕ) → WritesAttributes (WritesValue t) true before last attributes b s → are_attribute_names attributes ≡ true → Stops last s → Stops before (b ++ s)
 attributes_stop t before last [] b s w names stops = rw (w.1, ← w.0) stops
 attributes_stop t before last (a ∷ attributes) b s (form, piece, rest, is, w, ws) names stops =
     let cut : b ++ s ≡ piece ++ (rest ++ s) = rw is (simp append_assoc) in
@@ -205,7 +205,7 @@ record IsOne (t : List Entry) (a : Attribute) (b s : List ℕ) : Type 0 where
   read : read_attribute t raw ≡ a
   good : is_bad_name raw.name ≡ false
 
-one_read : (t : List Entry) (before form : Form) (a : Attribute) (b s : List ℕ) → WritesAttribute (WritesValue t) true before form a b s → is_attribute_name a.name ≡ true → Stops form s → IsOne t a b s
+one_read : (t : List Entry) (before form : Quoting) (a : Attribute) (b s : List ℕ) → WritesAttribute (WritesValue t) true before form a b s → is_attribute_name a.name ≡ true → Stops form s → IsOne t a b s
 unfolding is_gap
 one_read t before form a b s w good stops =
     let name : IsWrittenAttribute w.name = attribute_name_written w.name (rw w.lowered good) in
@@ -235,7 +235,7 @@ pub record AreRead (t : List Entry) (attributes : List Attribute) (b s : List �
   pub read : map (read_attribute t) raws ≡ attributes
   pub good : has_bad_name raws ≡ false
 
-pub attributes_read : (t : List Entry) (before last : Form) (attributes : List Attribute) (b s : List ℕ) → WritesAttributes (WritesValue t) true before last attributes b s → are_attribute_names attributes ≡ true → Stops last s → AreRead t attributes b s
+pub attributes_read : (t : List Entry) (before last : Quoting) (attributes : List Attribute) (b s : List ℕ) → WritesAttributes (WritesValue t) true before last attributes b s → are_attribute_names attributes ≡ true → Stops last s → AreRead t attributes b s
 attributes_read t before last [] b s w names stops = record { raws = []; cut = rw w.1 refl; read = refl; good = refl }
 attributes_read t before last (a ∷ attributes) b s (form, piece, rest, is, w, ws) names stops =
     let both = and_parts (is_attribute_name a.name) (are_attribute_names attributes) names in

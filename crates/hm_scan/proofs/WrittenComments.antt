@@ -5,7 +5,7 @@ use Rattle.hm_base.specs.Bytes.{strip}
 use Rattle.hm_base.specs.Forms.{is_comment_text, has_byte, has_mark}
 use Rattle.hm_base.specs.RawText.{is_found}
 use Rattle.hm_tree.specs.Tokens.{taken, comment}
-use Rattle.hm_scan.specs.Comments.{begins, cut_where, behind_end, read_comment}
+use Rattle.hm_scan.specs.Comments.{begins, cut_where, after_end, read_comment}
 use Rattle.hm_scan.proofs.Cuts.{strip_whole}
 use Rattle.hm_scan.proofs.Searches.{begins_not}
 
@@ -14,7 +14,7 @@ still_missing : (mark t y : List ℕ) → length mark ≤ length t → begins ma
 still_missing mark t y long e = strip_whole mark t y long ∙ ap (option_map (λ r. r ++ y)) (begins_not mark t e)
 
 -- a text that isn't empty and begins with no end of a comment doesn't begin with one either where `-->` follows it
-no_end_before : (t rest : List ℕ) → 0 < length t → begins (codes "-->") t ≡ false → begins (codes "--!>") t ≡ false → behind_end (t ++ (codes "-->" ++ rest)) ≡ None
+no_end_before : (t rest : List ℕ) → 0 < length t → begins (codes "-->") t ≡ false → begins (codes "--!>") t ≡ false → after_end (t ++ (codes "-->" ++ rest)) ≡ None
 no_end_before [] rest some e f = absurd (omega arith)
 no_end_before (c ∷ []) rest some e f = elim (45 == c) as (λ b. option_or {T = List ℕ} (cond b None None) (cond b None None) ≡ None) [ true ↦ refl | false ↦ refl ]
 no_end_before (c ∷ d ∷ []) rest some e f = either (45 == c) (45 == d)
@@ -40,7 +40,7 @@ either_false false false e = (refl, refl)
 either_false false true e = cc
 either_false true b e = cc
 
-cut_written : (t rest : List ℕ) → has_mark (codes "-->") t ≡ false → has_mark (codes "--!>") t ≡ false → cut_where behind_end (t ++ (codes "-->" ++ rest)) ≡ Some (record { before = t; behind = rest })
+cut_written : (t rest : List ℕ) → has_mark (codes "-->") t ≡ false → has_mark (codes "--!>") t ≡ false → cut_where after_end (t ++ (codes "-->" ++ rest)) ≡ Some (record { before = t; after = rest })
 cut_written [] rest e f = refl
 cut_written (c ∷ t) rest e f =
     let p = either_false (begins (codes "-->") (c ∷ t)) (has_mark (codes "-->") t) e in

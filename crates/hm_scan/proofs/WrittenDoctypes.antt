@@ -2,12 +2,12 @@
 use Rattle.std.proofs.Common.{◌≡◌, ◌⊎◌, inl, inr, ℕ, Bool, true, false, ◌&&◌, ◌||◌, ◌==◌, List, [], ◌∷◌, ◌++◌, map, length, Some, refl, sym, ap, ◌∙◌, codes, append_assoc, lit<}
 use Rattle.std.proofs.lemmas.List.{drop_at, length-map}
 use Rattle.std.proofs.lemmas.Bool.Decides.{Decides-eqb}
-use Rattle.hm_base.specs.Bytes.{cut_at, strip_word, lower, is_space, all_pass, head_is, is_null, behind}
+use Rattle.hm_base.specs.Bytes.{cut_at, strip_word, lower, is_space, all_pass, head_is, is_null, rest_after}
 use Rattle.hm_base.specs.Forms.{has_byte, is_blank}
 use Rattle.hm_markup_spec.specs.Gaps.{is_gap, IsWord}
 use Rattle.hm_markup_spec.specs.Doctypes.{IsPlainDoctype, IsLegacyDoctype, WritesDoctype}
 use Rattle.hm_tree.specs.Tokens.{taken, doctype}
-use Rattle.hm_scan.specs.Doctypes.{doctype_form, form_behind_name, is_identifier, read_doctype}
+use Rattle.hm_scan.specs.Doctypes.{doctype_form, form_after_name, is_identifier, read_doctype}
 use Rattle.hm_markup_spec.proofs.Gaps.{gap_blank, gap_front}
 use Rattle.hm_scan.proofs.Lowered.{eqb_lower'}
 
@@ -28,14 +28,14 @@ both true false e = cc
 both false b e = cc
 
 -- whitespace at the start
-space_front : (xs s : List ℕ) → is_blank xs ≡ true → head_is is_space s ≡ false → behind is_space (xs ++ s) ≡ s
+space_front : (xs s : List ℕ) → is_blank xs ≡ true → head_is is_space s ≡ false → rest_after is_space (xs ++ s) ≡ s
 space_front [] [] all stop = refl
 space_front [] (c ∷ s) all stop = rw stop refl
 space_front (x ∷ xs) s all stop =
     let parts = both (is_space x) (all_pass is_space xs) all in
     rw (parts.0, space_front xs s parts.1 stop) refl
 
-blank_all : (xs : List ℕ) → is_blank xs ≡ true → behind is_space xs ≡ []
+blank_all : (xs : List ℕ) → is_blank xs ≡ true → rest_after is_space xs ≡ []
 blank_all [] all = refl
 blank_all (x ∷ xs) all =
     let parts = both (is_space x) (all_pass is_space xs) all in
@@ -89,7 +89,7 @@ apart a b e = either (b == a) refl
     either true f = sym ((Decides-eqb a b).1 (sym ((Decides-eqb b a).0 f))) ∙ e
 
 -- the cut at a byte after what doesn't hold it
-cut_byte : (m : ℕ) (xs rest : List ℕ) → has_byte m xs ≡ false → cut_at (m ∷ []) (xs ++ m ∷ rest) ≡ Some (record { before = xs; behind = rest })
+cut_byte : (m : ℕ) (xs rest : List ℕ) → has_byte m xs ≡ false → cut_at (m ∷ []) (xs ++ m ∷ rest) ≡ Some (record { before = xs; after = rest })
 cut_byte m [] rest e = let same : (m == m) ≡ true = (Decides-eqb m m).1 refl in rw same refl
 cut_byte m (x ∷ xs) rest e =
     let parts = neither (x == m) (has_byte m xs) e in
@@ -131,7 +131,7 @@ word_there : (xs s : List ℕ) (c : ℕ) (w : List ℕ) → IsWord (c ∷ w) xs 
 word_there [] s c w e = cc
 word_there (x ∷ xs) s c w e = refl
 
-legacy_by : (z q r : List ℕ) → behind is_space z ≡ q → is_null q ≡ false → head_is is_space z ≡ true → strip_word (codes "system") q ≡ Some r → is_identifier (behind is_space r) ≡ true → form_behind_name (Some z) ≡ Some true
+legacy_by : (z q r : List ℕ) → rest_after is_space z ≡ q → is_null q ≡ false → head_is is_space z ≡ true → strip_word (codes "system") q ≡ Some r → is_identifier (rest_after is_space r) ≡ true → form_after_name (Some z) ≡ Some true
 legacy_by z q r rest some spaced found named = rw (rest, some, spaced, found, named) refl
 
 legacy_form : (gap name space keyword between identifier tail : List ℕ) → is_blank gap ≡ true → IsWord (codes "html") name → is_gap true space ≡ true → IsWord (codes "system") keyword → is_blank between ≡ true
@@ -142,9 +142,9 @@ legacy_form gap name space keyword between identifier tail g n s k b i t =
     let r = between ++ (identifier ++ tail) in
     let q = keyword ++ r in
     let z = space ++ q in
-    let named : is_identifier (behind is_space r) ≡ true = rw (space_front between (identifier ++ tail) b (identifier_front identifier tail i)) (identified identifier tail i t) in
+    let named : is_identifier (rest_after is_space r) ≡ true = rw (space_front between (identifier ++ tail) b (identifier_front identifier tail i)) (identified identifier tail i t) in
     let found : strip_word (codes "system") q ≡ Some r = word_front (codes "system") keyword r k in
-    let rest : behind is_space z ≡ q = space_front space q (gap_blank true space s) (head_lower keyword r 115 (codes "ystem") k letter_s) in
+    let rest : rest_after is_space z ≡ q = space_front space q (gap_blank true space s) (head_lower keyword r 115 (codes "ystem") k letter_s) in
     let spaced : head_is is_space z ≡ true = gap_front space q s in
     rw (space_front gap (name ++ z) g (head_lower name z 104 (codes "tml") n letter_h), word_front (codes "html") name z n)
     (legacy_by z q r rest (word_there keyword r 115 (codes "ystem") k) spaced found named)

@@ -2,20 +2,20 @@
 use Rattle.std.proofs.Common.{◌≡◌, ℕ, ◌≤◌, Bool, true, false, cond, not, ◌&&◌, ◌==◌, nat_lt, List, [], ◌∷◌, ◌++◌, map, length, Some, None, bytes_eq, refl, sym, ap, ap₂, ◌∙◌, append_assoc, append-nil, arith}
 use Rattle.std.proofs.lemmas.List.{length-map}
 use Rattle.std.proofs.lemmas.Bool.{and_parts}
-use Rattle.hm_base.specs.Bytes.{behind, head_is, is_space, is_letter, lower, all_pass}
+use Rattle.hm_base.specs.Bytes.{rest_after, head_is, is_space, is_letter, lower, all_pass}
 use Rattle.hm_base.specs.RawText.{is_name_end}
 use Rattle.hm_base.specs.Forms.{is_blank, is_tag_name}
 use Rattle.hm_base.specs.Walks.{Attribute, has_name, has_distinct_names}
 use Rattle.hm_refs.specs.Names.{Entry}
 use Rattle.hm_markup_spec.specs.Gaps.{is_gap}
-use Rattle.hm_markup_spec.specs.Tags.{Form, bare, unquoted, double, single, parts_slash, tag_end}
+use Rattle.hm_markup_spec.specs.Tags.{Quoting, bare, unquoted, double, single, parts_slash, tag_end}
 use Rattle.hm_tree.specs.Tokens.{taken, start_tag}
 use Rattle.hm_scan.specs.Tags.{is_name_byte, is_unquoted_byte, is_tag_end, CutTag, cut_tag}
 use Rattle.hm_scan.specs.Reading.{attribute_limit, has_bad_name, read_attribute, without_name, without_repeats, tag_fault, start_of, end_of, read_start, read_end, read_tag, begins_tag}
 use Rattle.hm_scan.specs.ReadBack.{IsAttributes}
 use Rattle.hm_scan.specs.TagLaws.{WrittenStartsAreRead, WrittenEndsAreRead}
 use Rattle.hm_markup_spec.proofs.Gaps.{gap_blank}
-use Rattle.hm_scan.proofs.Fronts.{front_all, behind_all}
+use Rattle.hm_scan.proofs.Fronts.{front_all, after_all}
 use Rattle.hm_scan.proofs.Cases.{IsWrittenName, tag_name_written}
 use Rattle.hm_scan.proofs.Written.{space_no_name, space_no_unquoted, tag_gap, Stops, attributes_stop, with_attributes, AreRead, attributes_read}
 
@@ -25,10 +25,10 @@ unfolding is_tag_end
 end_read true gap after blank = tag_gap gap (47 ∷ 62 ∷ after) blank
 end_read false gap after blank = tag_gap gap (62 ∷ after) blank
 
-end_behind : (slash : Bool) (gap after : List ℕ) → is_blank gap ≡ true → (c : ℕ) × (r : List ℕ) × (behind is_space (gap ++ (tag_end slash ++ after)) ≡ c ∷ r) × ((c == 61) ≡ false)
+end_after : (slash : Bool) (gap after : List ℕ) → is_blank gap ≡ true → (c : ℕ) × (r : List ℕ) × (rest_after is_space (gap ++ (tag_end slash ++ after)) ≡ c ∷ r) × ((c == 61) ≡ false)
 unfolding is_space
-end_behind true gap after blank = (47, 62 ∷ after, behind_all is_space gap (47 ∷ 62 ∷ after) blank refl, refl)
-end_behind false gap after blank = (62, after, behind_all is_space gap (62 ∷ after) blank refl, refl)
+end_after true gap after blank = (47, 62 ∷ after, after_all is_space gap (47 ∷ 62 ∷ after) blank refl, refl)
+end_after false gap after blank = (62, after, after_all is_space gap (62 ∷ after) blank refl, refl)
 
 end_ends_name : (slash : Bool) (gap after : List ℕ) → is_blank gap ≡ true → head_is is_name_byte (gap ++ (tag_end slash ++ after)) ≡ false
 unfolding is_name_byte is_name_end is_space
@@ -43,10 +43,10 @@ end_ends_value false [] after h = refl
 end_ends_value slash (g ∷ gap) after h = space_no_unquoted g (and_parts (is_space g) (is_blank gap) (and_parts (is_blank (g ∷ gap)) (not ((slash && true) && false)) h).0).0
 
 -- what follows the last attribute
-end_stops : (last : Form) (slash : Bool) (gap after : List ℕ) → is_gap (slash && parts_slash last) gap ≡ true → Stops last (gap ++ (tag_end slash ++ after))
+end_stops : (last : Quoting) (slash : Bool) (gap after : List ℕ) → is_gap (slash && parts_slash last) gap ≡ true → Stops last (gap ++ (tag_end slash ++ after))
 end_stops bare slash gap after h =
     let blank = gap_blank (slash && false) gap h in
-    (end_ends_name slash gap after blank, end_behind slash gap after blank)
+    (end_ends_name slash gap after blank, end_after slash gap after blank)
 end_stops unquoted slash gap after h = end_ends_value slash gap after h
 end_stops double slash gap after h = tt
 end_stops single slash gap after h = tt
@@ -106,11 +106,11 @@ end_begins t (c ∷ s) r h = (unfold is_letter in h, refl)
 
 start_cut : (t : List Entry) (s r : List ℕ) → all_pass is_name_byte s ≡ true → head_is is_name_byte r ≡ false → read_start t (s ++ r) ≡ start_of t (map lower s) (cut_tag r)
 unfolding read_start
-start_cut t s r all stop = rw (front_all is_name_byte s r all stop, behind_all is_name_byte s r all stop) refl
+start_cut t s r all stop = rw (front_all is_name_byte s r all stop, after_all is_name_byte s r all stop) refl
 
 end_cut : (s r : List ℕ) → all_pass is_name_byte s ≡ true → head_is is_name_byte r ≡ false → read_end (s ++ r) ≡ end_of (map lower s) (cut_tag r)
 unfolding read_end
-end_cut s r all stop = rw (front_all is_name_byte s r all stop, behind_all is_name_byte s r all stop) refl
+end_cut s r all stop = rw (front_all is_name_byte s r all stop, after_all is_name_byte s r all stop) refl
 
 pub starts_read : WrittenStartsAreRead
 starts_read t name attributes slash b after good all w =

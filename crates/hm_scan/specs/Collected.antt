@@ -25,14 +25,14 @@ pub record IsTagBody (t : List Entry) (keeps : Bool) (s : List ℕ) (from : ℕ)
   pub tag : CutTag
   pub is : cut_tag (drop from s) ≡ Some tag
   pub slash : b.slash ≡ tag.slash
-  pub rest : drop b.behind s ≡ tag.rest
+  pub rest : drop b.after s ≡ tag.rest
   pub kept : b.collected.keeps ≡ keeps
   pub collected : IsCollected t tag.attributes b.collected attrs
-  pub forward : from < b.behind
-  pub boundary : IsCharBoundary s b.behind
+  pub forward : from < b.after
+  pub boundary : IsCharBoundary s b.after
 
 -- why there is none
 abbrev pub HasNoBody : List ℕ → ℕ → ScanFault → Type 0
 HasNoBody s from faults.Cut = cut_tag (drop from s) ≡ None
-HasNoBody s from faults.Memory = Unit {0}
+HasNoBody s from faults.OutOfMemory = Unit {0}
 HasNoBody s from fault = ⊥

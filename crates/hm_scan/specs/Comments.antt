@@ -18,16 +18,16 @@ cut_where ends [] = None
 cut_where ends (c ∷ s) = or_go_on (ends (c ∷ s)) c (cut_where ends s)
 
 -- what follows `-->` or `--!>`
-abbrev pub behind_end : List ℕ → Option (List ℕ)
-behind_end s = option_or (strip (codes "-->") s) (strip (codes "--!>") s)
+abbrev pub after_end : List ℕ → Option (List ℕ)
+after_end s = option_or (strip (codes "-->") s) (strip (codes "--!>") s)
 
 abbrev pub at_once : Option (List ℕ) → Option Cut → Option Cut
 at_once None k = k
-at_once (Some rest) k = Some (record { before = []; behind = rest })
+at_once (Some rest) k = Some (record { before = []; after = rest })
 
 -- after `<!--`: a `>` or `->` ends the comment at once, else its text runs to the first `-->` or `--!>`
 abbrev pub cut_comment : List ℕ → Option Cut
-cut_comment s = at_once (option_or (strip (codes ">") s) (strip (codes "->") s)) (cut_where behind_end s)
+cut_comment s = at_once (option_or (strip (codes ">") s) (strip (codes "->") s)) (cut_where after_end s)
 
 -- The text of the comment that begins here, and what follows its end. After `<!` and `</` the text runs to the first
 -- `>`; a `?` belongs to it.

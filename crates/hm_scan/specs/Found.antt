@@ -7,14 +7,14 @@ use Rattle.hm_scan.specs.declared.search.MarkPiece.{MarkPiece}
 pub record IsFound (s : List ℕ) (from : ℕ) (cut : Option Cut) (p : MarkPiece) : Type 0 where
   pub starts : p.from ≡ from
   pub ordered : p.from ≤ p.to
-  pub ends : p.to < p.behind
-  pub inside : p.behind ≤ length s
+  pub ends : p.to < p.after
+  pub inside : p.after ≤ length s
   pub first : slice_index s p.to < 128
-  pub last : slice_index s (p.behind - 1) < 128
-  pub is : cut ≡ Some (record { before = slice_range s p.from p.to; behind = drop p.behind s })
+  pub last : slice_index s (p.after - 1) < 128
+  pub is : cut ≡ Some (record { before = slice_range s p.from p.to; after = drop p.after s })
 
 -- the same, for a piece that stands somewhere after a place, directly after an ASCII byte
-pub record IsFoundBehind (s : List ℕ) (start : ℕ) (cut : Option Cut) (p : MarkPiece) : Type 0 where
+pub record IsFoundAfter (s : List ℕ) (start : ℕ) (cut : Option Cut) (p : MarkPiece) : Type 0 where
   pub beyond : start < p.from
   pub ascii : slice_index s (p.from - 1) < 128
   pub found : IsFound s p.from cut p

@@ -11,13 +11,13 @@ use Rattle.hm_scan.specs.declared.tag_parts.TagPart.TheVariants.{Nothing, TagEnd
 abbrev pub written_in : List ℕ → ℕ → WrittenAttribute → walks.Attribute
 written_in s at a = record { name = slice_range s at a.name_to; value = slice_range s a.value.from a.value.to }
 
-pub record IsTagEnd (s : List ℕ) (from : ℕ) (slash : Bool) (behind : ℕ) : Type 0 where
-  pub cut : cut_tag (drop from s) ≡ Some (record { attributes = []; slash = slash; rest = drop behind s })
-  pub forward : from < behind
-  pub rest : IsCharBoundary s behind
+pub record IsTagEnd (s : List ℕ) (from : ℕ) (slash : Bool) (after : ℕ) : Type 0 where
+  pub cut : cut_tag (drop from s) ≡ Some (record { attributes = []; slash = slash; rest = drop after s })
+  pub forward : from < after
+  pub rest : IsCharBoundary s after
 
 pub record IsPair (s : List ℕ) (from at : ℕ) (a : WrittenAttribute) : Type 0 where
-  pub cut : cut_tag (drop from s) ≡ with_attribute (written_in s at a) (cut_tag (drop a.value.behind s))
+  pub cut : cut_tag (drop from s) ≡ with_attribute (written_in s at a) (cut_tag (drop a.value.after s))
   pub forward : from ≤ at
   pub starts : IsCharBoundary s at
   pub is : IsAttributeAt s at a
@@ -25,5 +25,5 @@ pub record IsPair (s : List ℕ) (from at : ℕ) (a : WrittenAttribute) : Type 0
 -- the part of a tag that comes next from a place on
 abbrev pub IsPart : List ℕ → ℕ → TagPart → Type 0
 IsPart s from Nothing = cut_tag (drop from s) ≡ None
-IsPart s from (TagEnd slash behind) = IsTagEnd s from slash behind
+IsPart s from (TagEnd slash after) = IsTagEnd s from slash after
 IsPart s from (Pair at a) = IsPair s from at a

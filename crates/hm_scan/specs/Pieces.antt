@@ -6,11 +6,11 @@ use Rattle.hm_tree.specs.declared.tokens.ScanFault.TheVariants as faults
 
 abbrev pub as_comment : Option Cut → Scanned
 as_comment None = refused faults.Cut
-as_comment (Some k) = taken (comment k.before) k.behind
+as_comment (Some k) = taken (comment k.before) k.after
 
 abbrev pub as_slice : Option Cut → Scanned
 as_slice None = refused faults.Cut
-as_slice (Some k) = taken (slice k.before) k.behind
+as_slice (Some k) = taken (slice k.before) k.after
 
 -- the text up to a place, followed by the bytes from there on
 abbrev pub slice_up_to : List ℕ → Option ℕ → Scanned

@@ -4,7 +4,7 @@ use Rattle.hm_base.specs.Bytes.{all_pass}
 use Rattle.hm_base.specs.Forms.{is_attribute_name}
 use Rattle.hm_base.specs.Walks.{Attribute, has_distinct_names}
 use Rattle.hm_refs.specs.Names.{Entry}
-use Rattle.hm_markup_spec.specs.Tags.{Form, bare, unquoted, double, single, IsAssigned}
+use Rattle.hm_markup_spec.specs.Tags.{Quoting, bare, unquoted, double, single, IsAssigned}
 use Rattle.hm_scan.specs.Values.{read_value}
 use Rattle.hm_scan.specs.Tags.{is_inside, is_quote, is_unquoted_byte}
 use Rattle.hm_scan.specs.Reading.{attribute_limit}
@@ -28,7 +28,7 @@ pub record IsUnquoted (t : List Entry) (value b : List ℕ) : Type 0 where
   pub read : read_value t written ≡ value
 
 -- b writes a value that is read back in this form, whatever follows
-abbrev pub WritesValue : List Entry → Form → List ℕ → List ℕ → List ℕ → Type 0
+abbrev pub WritesValue : List Entry → Quoting → List ℕ → List ℕ → List ℕ → Type 0
 WritesValue t bare value b after = (value ≡ []) × (b ≡ [])
 WritesValue t unquoted value b after = IsUnquoted t value b
 WritesValue t double value b after = IsQuoted t 34 value b

@@ -1,6 +1,6 @@
 -- Tags as tokens, or why they are refused.
 use Rattle.std.specs.Prelude.{ℕ, Bool, false, not, ◌&&◌, ◌||◌, ◌==◌, nat_le, nat_lt, List, [], ◌∷◌, map, length, drop, Option, Some, None, if◌then◌else◌, bytes_eq, codes}
-use Rattle.hm_base.specs.Bytes.{front, behind, strip, head_is, some_passes, lower, is_letter}
+use Rattle.hm_base.specs.Bytes.{front, rest_after, strip, head_is, some_passes, lower, is_letter}
 use Rattle.hm_base.specs.Forms.{is_tag_name}
 use Rattle.hm_base.specs.Walks.{Attribute}
 use Rattle.hm_base.specs.declared.limits.TheConstants.{ATTRIBUTE_LIMIT}
@@ -76,11 +76,11 @@ tag_name s = map lower (front is_name_byte s)
 
 -- a start tag after its '<'
 unfoldable pub read_start : List Entry → List ℕ → Scanned
-read_start t s = start_of t (tag_name s) (cut_tag (behind is_name_byte s))
+read_start t s = start_of t (tag_name s) (cut_tag (rest_after is_name_byte s))
 
 -- an end tag after its `</`: its attributes and its '/' are dropped
 unfoldable pub read_end : List ℕ → Scanned
-read_end s = end_of (tag_name s) (cut_tag (behind is_name_byte s))
+read_end s = end_of (tag_name s) (cut_tag (rest_after is_name_byte s))
 
 abbrev pub read_by : List Entry → Option (List ℕ) → List ℕ → Scanned
 read_by t None s = read_start t s

@@ -1,6 +1,6 @@
 -- How the text of a script is read, mark by mark.
 use Rattle.std.specs.Prelude.{Option, Some, None, if◌then◌else◌}
-use Rattle.hm_base.specs.RawText.{Mark, opens_comment, closes_comment, opens_script, closes_script, ScriptState, unescaped, escaped, double_escaped, state_behind, ends_script}
+use Rattle.hm_base.specs.RawText.{Mark, opens_comment, closes_comment, opens_script, closes_script, ScriptState, unescaped, escaped, double_escaped, state_after, ends_script}
 use Rattle.hm_scan.specs.declared.scripts.Escaping.{Escaping}
 use Rattle.hm_scan.specs.declared.scripts.Escaping.TheVariants as states
 use Rattle.hm_scan.specs.declared.scripts.ScriptMark.{ScriptMark}
@@ -20,4 +20,4 @@ mark_of marks.ClosesScript = closes_script
 -- the state after a place, with its mark if there is one; none where the script ends there
 abbrev pub next_state : ScriptState → Option Mark → Option ScriptState
 next_state state None = Some state
-next_state state (Some k) = if ends_script state k then None else Some (state_behind state k)
+next_state state (Some k) = if ends_script state k then None else Some (state_after state k)

@@ -47,9 +47,9 @@ bad_and_cut : read_tag [] (codes "<a \"x") ≡ refused faults.Cut
 unfolding tags_on_literals
 bad_and_cut = refl
 
-no_quote_behind : read_tag [] (codes "<a b='x\">") ≡ refused faults.Cut
+no_quote_after : read_tag [] (codes "<a b='x\">") ≡ refused faults.Cut
 unfolding tags_on_literals
-no_quote_behind = refl
+no_quote_after = refl
 
 a_bad_end_tag : read_tag [] (codes "</b \"x>") ≡ refused faults.BadName
 unfolding tags_on_literals
@@ -63,9 +63,9 @@ spaces_around_equals : read_tag [] (codes "<a b = 'c' d = >") ≡ taken (start_t
 unfolding tags_on_literals
 spaces_around_equals = refl
 
-no_flag_behind_a_space : read_tag [] (codes "<a/ >") ≡ taken (start_tag (codes "a") [] false) []
+no_flag_after_a_space : read_tag [] (codes "<a/ >") ≡ taken (start_tag (codes "a") [] false) []
 unfolding tags_on_literals
-no_flag_behind_a_space = refl
+no_flag_after_a_space = refl
 
 references_in_values : read_tag seven (codes "<a b=&amp&not;&notit c='&#x80;'>") ≡ taken (start_tag (codes "a") (attribute (codes "b") (38 ∷ 194 ∷ 172 ∷ codes "&notit") ∷ attribute (codes "c") (226 ∷ 130 ∷ 172 ∷ []) ∷ []) false) []
 unfolding tags_on_literals

@@ -41,23 +41,23 @@ IsPlainValue value = (t : List Entry) → read_value t value ≡ value
 -- a cut of the rest of the text: what is before it stands between two places, and what follows it begins at a third
 pub record IsCutAt (k : Cut) (s : List ℕ) (v : Value) : Type 0 where
   pub before : k.before ≡ slice_range s v.from v.to
-  pub behind : k.behind ≡ drop v.behind s
+  pub after : k.after ≡ drop v.after s
   pub ordered : v.from ≤ v.to
-  pub forward : v.to ≤ v.behind
+  pub forward : v.to ≤ v.after
   pub starts : IsCharBoundary s v.from
   pub ends : IsCharBoundary s v.to
-  pub rest : IsCharBoundary s v.behind
+  pub rest : IsCharBoundary s v.after
   pub plain : v.plain ≡ true → IsPlainValue (slice_range s v.from v.to)
 
 -- the attribute that begins at a place
 pub record IsAttributeAt (s : List ℕ) (at : ℕ) (a : WrittenAttribute) : Type 0 where
-  pub is : attribute_at (slice_index s at) (drop (at + 1) s) ≡ record { attribute = record { name = slice_range s at a.name_to; value = slice_range s a.value.from a.value.to }; rest = drop a.value.behind s }
+  pub is : attribute_at (slice_index s at) (drop (at + 1) s) ≡ record { attribute = record { name = slice_range s at a.name_to; value = slice_range s a.value.from a.value.to }; rest = drop a.value.after s }
   pub plain : a.plain ≡ true → IsOrdinaryName (slice_range s at a.name_to)
   pub plain_value : a.value.plain ≡ true → IsPlainValue (slice_range s a.value.from a.value.to)
   pub forward : at < a.name_to
-  pub behind : a.name_to ≤ a.value.behind
+  pub after : a.name_to ≤ a.value.after
   pub ordered : a.value.from ≤ a.value.to
   pub name_ends : IsCharBoundary s a.name_to
   pub value_starts : IsCharBoundary s a.value.from
   pub value_ends : IsCharBoundary s a.value.to
-  pub rest : IsCharBoundary s a.value.behind
+  pub rest : IsCharBoundary s a.value.after

@@ -1,7 +1,7 @@
 -- The parts of a tag as they are written (HTML Standard, #tag-name-state and #before-attribute-name-state to
 -- #self-closing-start-tag-state).
 use Rattle.std.specs.Prelude.{ℕ, zero, suc, ◌-◌, Bool, false, not, ◌||◌, ◌==◌, List, [], ◌∷◌, length, drop, Option, Some, None, if◌then◌else◌}
-use Rattle.hm_base.specs.Bytes.{Cut, front, behind, head_is, is_space}
+use Rattle.hm_base.specs.Bytes.{Cut, front, rest_after, head_is, is_space}
 use Rattle.hm_base.specs.RawText.{is_name_end}
 use Rattle.hm_base.specs.Walks.{Attribute}
 
@@ -25,27 +25,27 @@ unfoldable pub is_quote : ℕ → Bool
 is_quote c = c == 34 || c == 39
 
 -- the longest prefix whose bytes pass, and what follows it
-abbrev pub cut_behind : (ℕ → Bool) → List ℕ → Cut
-cut_behind p s = record { before = front p s; behind = behind p s }
+abbrev pub cut_after : (ℕ → Bool) → List ℕ → Cut
+cut_after p s = record { before = front p s; after = rest_after p s }
 
 -- after a quote: up to the same quote, which belongs to neither part
 abbrev pub cut_quoted : ℕ → List ℕ → Cut
-cut_quoted quote s = record { before = front (is_inside quote) s; behind = drop 1 (behind (is_inside quote) s) }
+cut_quoted quote s = record { before = front (is_inside quote) s; after = drop 1 (rest_after (is_inside quote) s) }
 
 -- nothing is left
 abbrev pub no_more : Cut
-no_more = record { before = []; behind = [] }
+no_more = record { before = []; after = [] }
 
 -- After '=' and whitespace: a value in quotes, or one up to whitespace or '>', which is empty where '>' stands there.
 abbrev pub cut_value : List ℕ → Cut
 cut_value [] = no_more
-cut_value (c ∷ s) = if is_quote c then cut_quoted c s else cut_behind is_unquoted_byte (c ∷ s)
+cut_value (c ∷ s) = if is_quote c then cut_quoted c s else cut_after is_unquoted_byte (c ∷ s)
 
 -- s follows an attribute's name, and r is s without its leading whitespace: a value where r begins with '=', else an
 -- empty one.
 abbrev pub cut_assigned : List ℕ → List ℕ → Cut
 cut_assigned s [] = no_more
-cut_assigned s (c ∷ r) = if c == 61 then cut_value (behind is_space r) else record { before = []; behind = s }
+cut_assigned s (c ∷ r) = if c == 61 then cut_value (rest_after is_space r) else record { before = []; after = s }
 
 -- an attribute, name and value as they are written, and what follows it
 pub record Written : Type 0 where
@@ -53,14 +53,14 @@ pub record Written : Type 0 where
   pub rest : List ℕ
 
 abbrev pub with_name : List ℕ → Cut → Written
-with_name name value = record { attribute = record { name = name; value = value.before }; rest = value.behind }
+with_name name value = record { attribute = record { name = name; value = value.before }; rest = value.after }
 
 abbrev pub named : List ℕ → List ℕ → Written
-named name s = with_name name (cut_assigned s (behind is_space s))
+named name s = with_name name (cut_assigned s (rest_after is_space s))
 
 -- the attribute whose name begins with c, whatever c is
 unfoldable pub attribute_at : ℕ → List ℕ → Written
-attribute_at c s = named (c ∷ front is_later_byte s) (behind is_later_byte s)
+attribute_at c s = named (c ∷ front is_later_byte s) (rest_after is_later_byte s)
 
 -- the attributes of a tag in order, whether a '/' stands directly before its '>', and what follows it
 pub record CutTag : Type 0 where

@@ -1,7 +1,7 @@
 //! The parts of an attribute as it is written, by their places in the text.
 ghost use Rattle.std.specs.Prelude.{◌≡◌, ◌+◌, ◌≤◌, ◌<◌, length, drop, true, false, slice_index, slice_range, IfSome, IsUtf8, IsCharBoundary};
 ghost use Rattle.memchr.specs.Find.{IsFirstByte, Nowhere, Passes, is_byte};
-ghost use Rattle.hm_base.specs.Bytes.{behind, is_space};
+ghost use Rattle.hm_base.specs.Bytes.{rest_after, is_space};
 ghost use Rattle.hm_scan.specs.Tags as tags;
 ghost use Rattle.hm_scan.specs.Tags.{cut_assigned, cut_quoted, cut_value};
 ghost use Rattle.hm_scan.specs.TagPlaces.{IsAttributeAt, IsCutAt, IsOrdinaryName};
@@ -11,13 +11,13 @@ use crate::names::is_tag_byte;
 use crate::tag_runs::{ByteRun, plain_run_end, run_end};
 use memchr::{memchr, memchr2};
 
-/// A value from `from` up to `to`. What follows it and its quote begins at `behind`. `plain` says that it is read as it is
+/// A value from `from` up to `to`. What follows it and its quote begins at `after`. `plain` says that it is read as it is
 /// written, since no `&` is in it.
 #[derive(Clone, Copy)]
 pub(crate) struct Value {
     pub(crate) from: usize,
     pub(crate) to: usize,
-    pub(crate) behind: usize,
+    pub(crate) after: usize,
     pub(crate) plain: bool,
 }
 
@@ -45,12 +45,12 @@ struct NamePart {
 
 /// An empty value at a place.
 fn empty(at: usize) -> Value
-    ensures { result ≡ record { from = at; to = at; behind = at; plain = false } }
+    ensures { result ≡ record { from = at; to = at; after = at; plain = false } }
 {
     Value {
         from: at,
         to: at,
-        behind: at,
+        after: at,
         plain: false,
     }
 }
@@ -106,20 +106,20 @@ fn quoted_value(bytes: &[u8], from: usize, quote: u8) -> Value
     requires quote { tags.is_quote quote ≡ true }
     requires boundary { IsCharBoundary bytes.now from }
     ensures cut { IsCutAt (cut_quoted quote (drop from bytes.now)) bytes.now result }
-    ensures forward { from ≤ result.behind }
+    ensures forward { from ≤ result.after }
 {
     let found = find_quote(&bytes[from..], quote);
     match found.at {
         Some(len) => Value {
             from,
             to: from + len,
-            behind: from + len + 1,
+            after: from + len + 1,
             plain: found.plain,
         },
         None => Value {
             from,
             to: bytes.len(),
-            behind: bytes.len(),
+            after: bytes.len(),
             plain: false,
         },
     }
@@ -130,7 +130,7 @@ fn value_at(bytes: &[u8], from: usize) -> Value
     requires utf8 { IsUtf8 bytes.now }
     requires boundary { IsCharBoundary bytes.now from }
     ensures cut { IsCutAt (cut_value (drop from bytes.now)) bytes.now result }
-    ensures forward { from ≤ result.behind }
+    ensures forward { from ≤ result.after }
 {
     if from == bytes.len() {
         return empty(from);
@@ -143,7 +143,7 @@ fn value_at(bytes: &[u8], from: usize) -> Value
     Value {
         from,
         to,
-        behind: to,
+        after: to,
         plain: false,
     }
 }
@@ -152,8 +152,8 @@ fn value_at(bytes: &[u8], from: usize) -> Value
 fn assigned_value(bytes: &[u8], from: usize) -> Value
     requires utf8 { IsUtf8 bytes.now }
     requires boundary { IsCharBoundary bytes.now from }
-    ensures cut { IsCutAt (cut_assigned (drop from bytes.now) (behind is_space (drop from bytes.now))) bytes.now result }
-    ensures forward { from ≤ result.behind }
+    ensures cut { IsCutAt (cut_assigned (drop from bytes.now) (rest_after is_space (drop from bytes.now))) bytes.now result }
+    ensures forward { from ≤ result.after }
 {
     let equals = run_end(bytes, from, ByteRun::Space);
     if equals == bytes.len() {

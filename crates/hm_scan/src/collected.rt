@@ -8,7 +8,7 @@ ghost use Rattle.hm_scan.specs.Reading as reading;
 
 use crate::names::{is_bad_name, lowered};
 use crate::values::{has_reference, read_value};
-use hm_base::{ATTRIBUTE_LIMIT, Memory};
+use hm_base::{ATTRIBUTE_LIMIT, OutOfMemory};
 use hm_refs::Table;
 use hm_tree::Attrs;
 use std::alloc::Global;
@@ -52,7 +52,7 @@ impl Collected {
         plain_value: bool,
         table: &Table,
         attrs: &mut Attrs,
-    ) -> Result<(), Memory>
+    ) -> Result<(), OutOfMemory>
         requires room { self.old.count + 1 < 2 ^ 32 }
         requires plain { plain ≡ true → IsOrdinaryName name.now }
         requires plain_value { plain_value ≡ true → IsPlainValue value.now }
@@ -88,7 +88,7 @@ fn keep(
     value: &str,
     plain_value: bool,
     table: &Table,
-) -> Result<(), Memory>
+) -> Result<(), OutOfMemory>
     requires room { length attrs.old + 1 < 2 ^ 32 }
     requires plain { plain ≡ true → IsOrdinaryName name.now }
     requires plain_value { plain_value ≡ true → IsPlainValue value.now }
@@ -112,7 +112,7 @@ fn keep_plain(
     value: &str,
     plain_value: bool,
     table: &Table,
-) -> Result<(), Memory>
+) -> Result<(), OutOfMemory>
     requires room { length attrs.old + 1 < 2 ^ 32 }
     requires plain { map lower name.now ≡ name.now }
     requires plain_value { plain_value ≡ true → IsPlainValue value.now }

@@ -3,11 +3,11 @@ ghost use Rattle.std.specs.Prelude.{◌≡◌, ℕ, ◌+◌, ◌^◌, ◌<◌, �
 ghost use Rattle.hm_tree.specs.Tokens.{BeginsAt, Reads, refused};
 ghost use Rattle.hm_base.specs.Bytes.{strip};
 ghost use Rattle.hm_scan.specs.Comments as comments;
-ghost use Rattle.hm_scan.specs.Comments.{comment_at, comment_front, read_comment, read_cdata, cut_comment, cut_where, behind_end};
-ghost use Rattle.hm_scan.specs.Found.{Finds, IsMarkEnd, IsFoundBehind};
+ghost use Rattle.hm_scan.specs.Comments.{comment_at, comment_front, read_comment, read_cdata, cut_comment, cut_where, after_end};
+ghost use Rattle.hm_scan.specs.Found.{Finds, IsMarkEnd, IsFoundAfter};
 
 use crate::doctypes::begins_doctype;
-use crate::search::{MarkPiece, begins_with, behind_mark, up_to_brackets, up_to_greater};
+use crate::search::{MarkPiece, after_mark, begins_with, up_to_brackets, up_to_greater};
 use hm_tree::{ScanFault, Token};
 use memchr::memchr2;
 
@@ -16,7 +16,7 @@ use memchr::memchr2;
 fn begins_no_tag(bytes: &[u8]) -> bool
     ensures { result ≡ comments.found_and comments.is_no_tag (strip (codes "</") bytes.now) }
 {
-    match behind_mark(bytes, b"</") {
+    match after_mark(bytes, b"</") {
         Some(rest) => match rest.first() {
             Some(byte) => !(byte.is_ascii_alphabetic() || *byte == b'>'),
             None => false,
@@ -40,7 +40,7 @@ pub fn begins_comment(text: &str, at: u32) -> bool
 
 /// The length of the end of a comment that the bytes begin with.
 fn comment_end(bytes: &[u8]) -> Option<usize>
-    ensures { MatchOption result (behind_end bytes.now ≡ None) (IsMarkEnd behind_end bytes.now) }
+    ensures { MatchOption result (after_end bytes.now ≡ None) (IsMarkEnd after_end bytes.now) }
 {
     if begins_with(bytes, b"-->") {
         Some(3)
@@ -55,7 +55,7 @@ fn comment_end(bytes: &[u8]) -> Option<usize>
 /// looked for only before these.
 fn up_to_end(bytes: &[u8], from: usize) -> Option<MarkPiece>
     requires { from ≤ length bytes.now }
-    ensures { Finds bytes.now from (cut_where behind_end (drop from bytes.now)) result }
+    ensures { Finds bytes.now from (cut_where after_end (drop from bytes.now)) result }
 {
     let mut at = from;
     'signs: while at + 2 < bytes.len() {
@@ -64,8 +64,8 @@ fn up_to_end(bytes: &[u8], from: usize) -> Option<MarkPiece>
         };
         let to = at + found;
         if let Some(len) = comment_end(&bytes[to..]) {
-            let behind = to + len;
-            return Some(MarkPiece { from, to, behind });
+            let after = to + len;
+            return Some(MarkPiece { from, to, after });
         }
         at = to + 1;
     }
@@ -82,14 +82,14 @@ fn comment_text(bytes: &[u8], from: usize) -> Option<MarkPiece>
         return Some(MarkPiece {
             from,
             to: from,
-            behind: from + 1,
+            after: from + 1,
         });
     }
     if begins_with(rest, b"->") {
         return Some(MarkPiece {
             from,
             to: from,
-            behind: from + 2,
+            after: from + 2,
         });
     }
     up_to_end(bytes, from)
@@ -99,7 +99,7 @@ fn comment_text(bytes: &[u8], from: usize) -> Option<MarkPiece>
 fn comment_piece(bytes: &[u8], start: usize) -> Option<MarkPiece>
     requires inside { start + 2 ≤ length bytes.now }
     requires begins { comments.begins_comment (drop start bytes.now) ≡ true }
-    ensures found { MatchOption result (comment_at (drop start bytes.now) ≡ None) (IsFoundBehind bytes.now start (comment_at (drop start bytes.now))) }
+    ensures found { MatchOption result (comment_at (drop start bytes.now) ≡ None) (IsFoundAfter bytes.now start (comment_at (drop start bytes.now))) }
     ensures from { IfSome result (λ piece. piece.from ≡ start + comment_front (drop start bytes.now)) }
 {
     let rest = &bytes[start..];
@@ -129,7 +129,7 @@ pub fn scan_comment(text: &str, at: u32) -> Result<(Token, u32), ScanFault>
                 from: piece.from as u32,
                 to: piece.to as u32,
             },
-            piece.behind as u32,
+            piece.after as u32,
         )),
         None => Err(ScanFault::Cut),
     }
@@ -161,7 +161,7 @@ pub fn scan_cdata(text: &str, at: u32) -> Result<(Token, u32), ScanFault>
                 from: piece.from as u32,
                 to: piece.to as u32,
             },
-            piece.behind as u32,
+            piece.after as u32,
         )),
         None => Err(ScanFault::Cut),
     }

@@ -4,7 +4,7 @@ ghost use Rattle.hm_base.specs.Bytes.{head_is, is_space, strip_word};
 ghost use Rattle.hm_tree.specs.Tokens.{BeginsAt, Reads, refused};
 ghost use Rattle.hm_scan.specs.Doctypes as doctypes;
 
-use crate::search::{behind_mark, behind_space, behind_word, up_to_greater};
+use crate::search::{after_mark, after_space, after_word, up_to_greater};
 use hm_tree::{ScanFault, Token};
 
 /// Whether a doctype begins at byte `at` of the text: `<!doctype` in any ASCII case (#markup-declaration-open-state).
@@ -14,7 +14,7 @@ pub fn begins_doctype(text: &str, at: u32) -> bool
     ensures { result ≡ doctypes.begins_doctype (drop at text.now) }
 {
     matches!(
-        behind_word(&text.as_bytes()[at as usize..], b"<!doctype"),
+        after_word(&text.as_bytes()[at as usize..], b"<!doctype"),
         Some(_)
     )
 }
@@ -30,10 +30,10 @@ fn begins_with_space(bytes: &[u8]) -> bool
 fn is_identifier(bytes: &[u8]) -> bool
     ensures { result ≡ doctypes.is_identifier bytes.now }
 {
-    match behind_mark(bytes, b"\"about:legacy-compat\"") {
-        Some(rest) => behind_space(rest).is_empty(),
-        None => match behind_mark(bytes, b"'about:legacy-compat'") {
-            Some(rest) => behind_space(rest).is_empty(),
+    match after_mark(bytes, b"\"about:legacy-compat\"") {
+        Some(rest) => after_space(rest).is_empty(),
+        None => match after_mark(bytes, b"'about:legacy-compat'") {
+            Some(rest) => after_space(rest).is_empty(),
             None => false,
         },
     }
@@ -43,17 +43,17 @@ fn is_identifier(bytes: &[u8]) -> bool
 fn is_legacy(bytes: &[u8]) -> bool
     ensures { result ≡ doctypes.is_legacy (strip_word (codes "system") bytes.now) }
 {
-    match behind_word(bytes, b"system") {
-        Some(rest) => is_identifier(behind_space(rest)),
+    match after_word(bytes, b"system") {
+        Some(rest) => is_identifier(after_space(rest)),
         None => false,
     }
 }
 
 /// Whether a doctype whose bytes after `html` are these is of the legacy form or of the plain one.
-fn form_behind_name(bytes: &[u8]) -> Option<bool>
-    ensures { result ≡ doctypes.form_behind_name (Some bytes.now) }
+fn form_after_name(bytes: &[u8]) -> Option<bool>
+    ensures { result ≡ doctypes.form_after_name (Some bytes.now) }
 {
-    let further = behind_space(bytes);
+    let further = after_space(bytes);
     if further.is_empty() {
         Some(false)
     } else if begins_with_space(bytes) && is_legacy(further) {
@@ -69,8 +69,8 @@ fn form_behind_name(bytes: &[u8]) -> Option<bool>
 fn doctype_form(bytes: &[u8]) -> Option<bool>
     ensures { result ≡ doctypes.doctype_form bytes.now }
 {
-    match behind_word(behind_space(bytes), b"html") {
-        Some(rest) => form_behind_name(rest),
+    match after_word(after_space(bytes), b"html") {
+        Some(rest) => form_after_name(rest),
         None => None,
     }
 }
@@ -89,7 +89,7 @@ pub fn scan_doctype(text: &str, at: u32) -> Result<(Token, u32), ScanFault>
     let bytes = text.as_bytes();
     match up_to_greater(bytes, at as usize + 9) {
         Some(piece) => match doctype_form(&bytes[piece.from..piece.to]) {
-            Some(legacy) => Ok((Token::Doctype { legacy }, piece.behind as u32)),
+            Some(legacy) => Ok((Token::Doctype { legacy }, piece.after as u32)),
             None => Err(ScanFault::BadDoctype),
         },
         None => Err(ScanFault::Cut),

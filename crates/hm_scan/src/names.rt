@@ -5,12 +5,12 @@ ghost use Rattle.hm_base.specs.Forms as forms;
 ghost use Rattle.hm_scan.specs.TagPlaces.{IsPlainName};
 ghost use Rattle.hm_scan.specs.Reading as reading;
 
-use hm_base::Memory;
+use hm_base::OutOfMemory;
 use std::alloc::Global;
 
 /// Puts the name with its ASCII uppercase letters as lowercase letters in place of a text.
 #[tactic(auto, using(crate::proofs::NameReads::lowercase_is))]
-pub(crate) fn put_lowered(text: &mut String, name: &str) -> Result<(), Memory>
+pub(crate) fn put_lowered(text: &mut String, name: &str) -> Result<(), OutOfMemory>
     ensures { OnOk result (string_bytes text.new ≡ map lower name.now) }
 {
     text.clear();
@@ -21,7 +21,7 @@ pub(crate) fn put_lowered(text: &mut String, name: &str) -> Result<(), Memory>
 
 /// Puts the name as it is read in place of a text; `plain` says that it is read as it is written.
 #[inline(always)]
-pub(crate) fn put_name(text: &mut String, name: &str, plain: bool) -> Result<(), Memory>
+pub(crate) fn put_name(text: &mut String, name: &str, plain: bool) -> Result<(), OutOfMemory>
     requires { plain ≡ true → IsPlainName name.now }
     ensures { OnOk result (string_bytes text.new ≡ map lower name.now) }
 {
@@ -34,7 +34,7 @@ pub(crate) fn put_name(text: &mut String, name: &str, plain: bool) -> Result<(),
 }
 
 /// The name with its ASCII uppercase letters as lowercase letters.
-pub(crate) fn lowered(alloc: Global, name: &str) -> Result<String, Memory>
+pub(crate) fn lowered(alloc: Global, name: &str) -> Result<String, OutOfMemory>
     ensures { IfOk result (λ text. string_bytes text ≡ map lower name.now) }
 {
     let mut text = String::new(alloc);

@@ -6,7 +6,7 @@ ghost use Rattle.hm_tree.specs.Tokens.{BeginsAt, Reads, refused};
 ghost use Rattle.hm_scan.specs.Found.{FindsPlace};
 ghost use Rattle.hm_scan.specs.RawTexts.{read_raw};
 
-use crate::search::behind_word;
+use crate::search::after_word;
 use hm_tree::{ScanFault, Token};
 use memchr::memmem;
 
@@ -25,7 +25,7 @@ fn ends_name(bytes: &[u8]) -> bool
 pub fn begins_with_name(bytes: &[u8], word: &[u8]) -> bool
     ensures { result ≡ raw.is_found_whole (strip_word word.now bytes.now) }
 {
-    match behind_word(bytes, word) {
+    match after_word(bytes, word) {
         Some(rest) => ends_name(rest),
         None => false,
     }
@@ -36,7 +36,7 @@ pub fn begins_with_name(bytes: &[u8], word: &[u8]) -> bool
 fn begins_end_tag(bytes: &[u8], name: &[u8]) -> bool
     ensures { result ≡ raw.begins_end_tag name.now bytes.now }
 {
-    match behind_word(bytes, b"</") {
+    match after_word(bytes, b"</") {
         Some(rest) => begins_with_name(rest, name),
         None => false,
     }

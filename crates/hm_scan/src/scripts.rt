@@ -31,7 +31,7 @@ enum ScriptMark {
 
 impl Escaping {
     /// The state after a mark; none where the script ends at it.
-    fn behind(self, mark: Option<ScriptMark>) -> Option<Escaping>
+    fn after(self, mark: Option<ScriptMark>) -> Option<Escaping>
         ensures { option_map state_of result ≡ next_state (state_of self) (option_map mark_of mark) }
     {
         match (self, mark) {
@@ -72,7 +72,7 @@ pub fn script_end(bytes: &[u8], from: usize) -> Option<usize>
     let mut at = from;
     'marks: while let Some(found) = memchr2(b'<', b'-', &bytes[at..]) {
         let to = at + found;
-        let Some(next) = state.behind(mark_at(&bytes[to..])) else {
+        let Some(next) = state.after(mark_at(&bytes[to..])) else {
             return Some(to);
         };
         state = next;

@@ -1,17 +1,17 @@
 //! Searches of the bytes of a text.
 ghost use Rattle.std.specs.Prelude.{◌≡◌, ℕ, ◌+◌, ◌<◌, ◌≤◌, [], ◌∷◌, drop, length, codes, MatchOption, None, Some};
-ghost use Rattle.hm_base.specs.Bytes.{cut_at, strip, strip_word, is_space, behind, lower};
+ghost use Rattle.hm_base.specs.Bytes.{cut_at, strip, strip_word, is_space, rest_after, lower};
 ghost use Rattle.hm_scan.specs.Comments.{begins};
 ghost use Rattle.hm_scan.specs.Found.{Finds};
 
 use memchr::{memchr, memmem};
 
-/// A piece of a text from `from` up to `to`, where its end stands; what follows the end begins at `behind`.
+/// A piece of a text from `from` up to `to`, where its end stands; what follows the end begins at `after`.
 #[derive(Clone, Copy)]
 pub struct MarkPiece {
     pub from: usize,
     pub to: usize,
-    pub behind: usize,
+    pub after: usize,
 }
 
 /// The bytes from a place on up to the first `>`.
@@ -23,7 +23,7 @@ pub fn up_to_greater(bytes: &[u8], from: usize) -> Option<MarkPiece>
         Some(found) => Some(MarkPiece {
             from,
             to: from + found,
-            behind: from + found + 1,
+            after: from + found + 1,
         }),
         None => None,
     }
@@ -38,7 +38,7 @@ pub fn up_to_brackets(bytes: &[u8], from: usize) -> Option<MarkPiece>
         Some(found) => Some(MarkPiece {
             from,
             to: from + found,
-            behind: from + found + 3,
+            after: from + found + 3,
         }),
         None => None,
     }
@@ -53,7 +53,7 @@ pub fn begins_with(bytes: &[u8], mark: &[u8]) -> bool
 }
 
 /// What follows a mark, where the bytes begin with it.
-pub fn behind_mark<'t>(bytes: &'t [u8], mark: &[u8]) -> Option<&'t [u8]>
+pub fn after_mark<'t>(bytes: &'t [u8], mark: &[u8]) -> Option<&'t [u8]>
     ensures { MatchOption result (strip mark.now bytes.now ≡ None) (λ rest. strip mark.now bytes.now ≡ Some rest.now) }
 {
     if bytes.starts_with(mark) {
@@ -73,7 +73,7 @@ fn lowered(byte: u8) -> u8
 
 /// What follows a word of lowercase letters in any ASCII case, where the bytes begin with it.
 #[tactic(auto, using(crate::proofs::Steps::word_short))]
-pub fn behind_word<'t>(bytes: &'t [u8], word: &[u8]) -> Option<&'t [u8]>
+pub fn after_word<'t>(bytes: &'t [u8], word: &[u8]) -> Option<&'t [u8]>
     ensures { MatchOption result (strip_word word.now bytes.now ≡ None) (λ rest. strip_word word.now bytes.now ≡ Some rest.now) }
 {
     if bytes.len() < word.len() {
@@ -88,8 +88,8 @@ pub fn behind_word<'t>(bytes: &'t [u8], word: &[u8]) -> Option<&'t [u8]>
 }
 
 /// What follows the whitespace that the bytes begin with.
-pub fn behind_space(bytes: &[u8]) -> &[u8]
-    ensures { result.now ≡ behind is_space bytes.now }
+pub fn after_space(bytes: &[u8]) -> &[u8]
+    ensures { result.now ≡ rest_after is_space bytes.now }
 {
     let mut at = 0;
     while at < bytes.len() && hm_base::is_space(char::from(bytes[at])) {

@@ -22,11 +22,11 @@ use hm_tree::{Attrs, Lexeme, ScanFault, Tag, Token};
 use std::alloc::Global;
 
 /// What is known of a tag beside its name and its attributes: whether a `/` stands directly before its `>`. What
-/// follows it begins at `behind`.
+/// follows it begins at `after`.
 #[derive(Clone, Copy)]
 struct Whole {
     slash: bool,
-    behind: u32,
+    after: u32,
 }
 
 /// Whether a name of a tag, in lowercase letters, is one that is read. `plain` says that it is.
@@ -128,13 +128,13 @@ fn read_bare(text: &str, from: usize, to: usize, tag: &mut Tag) -> Result<Whole,
     requires inside { to < length text.now }
     requires greater { slice_index text.now to ≡ 62 }
     ensures ok { IfOk result (λ whole. (t : List Entry) → (keeps : Bool) → IsWhole t keeps text.now from tag.new whole) }
-    ensures err { IfErr result (λ fault. fault ≡ ScanFault.Memory) }
+    ensures err { IfErr result (λ fault. fault ≡ ScanFault.OutOfMemory) }
 {
     clear(&mut tag.attrs);
     put_name(&mut tag.name, &text[from..to], true)?;
     Ok(Whole {
         slash: false,
-        behind: to as u32 + 1,
+        after: to as u32 + 1,
     })
 }
 
@@ -155,7 +155,7 @@ fn read_full(
     requires plain { end.plain ≡ true → IsPlainName (slice_range text.now from end.to) }
     ensures ok { IfOk result (IsWhole table.now.entries keeps text.now from tag.new) }
     ensures err { IfErr result
-        (λ fault. fault ≢ ScanFault.Memory → fault_at (drop from text.now) ≡ Some fault) }
+        (λ fault. fault ≢ ScanFault.OutOfMemory → fault_at (drop from text.now) ≡ Some fault) }
 {
     let body = read_body(alloc, text, end.to, table, keeps, &mut tag.attrs)?;
     put_name(&mut tag.name, &text[from..end.to], end.plain)?;
@@ -163,7 +163,7 @@ fn read_full(
         Some(fault) => Err(fault),
         None => Ok(Whole {
             slash: body.slash,
-            behind: body.behind as u32,
+            after: body.after as u32,
         }),
     }
 }
@@ -183,7 +183,7 @@ fn read_whole(
     requires size { length text.now < 2 ^ 32 }
     ensures ok { IfOk result (IsWhole table.now.entries keeps text.now from tag.new) }
     ensures err { IfErr result
-        (λ fault. fault ≢ ScanFault.Memory → fault_at (drop from text.now) ≡ Some fault) }
+        (λ fault. fault ≢ ScanFault.OutOfMemory → fault_at (drop from text.now) ≡ Some fault) }
 {
     let end = name_end(text, from);
     if is_bare(text.as_bytes(), end) {
@@ -206,13 +206,13 @@ fn scan_start(
     ensures ok { IfOk result
         (λ r. Reads (read_start table.now.entries (drop from text.now)) text.now (token_of r.0 tag.new) r.1) }
     ensures err { IfErr result
-        (λ fault. fault ≢ ScanFault.Memory → read_start table.now.entries (drop from text.now) ≡ refused fault) }
+        (λ fault. fault ≢ ScanFault.OutOfMemory → read_start table.now.entries (drop from text.now) ≡ refused fault) }
     ensures forward { IfOk result (λ r. from < r.1) }
     ensures placed { IfOk result (λ r. (place : ℕ) → BeginsAt place (token_of r.0 tag.new)) }
 {
     let whole = read_whole(alloc, text, from, table, true, tag)?;
     let lexeme = Lexeme::StartTag { slash: whole.slash };
-    Ok((lexeme, whole.behind))
+    Ok((lexeme, whole.after))
 }
 
 /// Reads the end tag whose name begins at `from`. Its attributes are judged, and dropped with its `/`.
@@ -228,12 +228,12 @@ fn scan_end(
     requires size { length text.now < 2 ^ 32 }
     ensures ok { IfOk result (λ r. Reads (read_end (drop from text.now)) text.now (token_of r.0 tag.new) r.1) }
     ensures err { IfErr result
-        (λ fault. fault ≢ ScanFault.Memory → read_end (drop from text.now) ≡ refused fault) }
+        (λ fault. fault ≢ ScanFault.OutOfMemory → read_end (drop from text.now) ≡ refused fault) }
     ensures forward { IfOk result (λ r. from < r.1) }
     ensures placed { IfOk result (λ r. (place : ℕ) → BeginsAt place (token_of r.0 tag.new)) }
 {
     let whole = read_whole(alloc, text, from, table, false, tag)?;
-    Ok((Lexeme::EndTag, whole.behind))
+    Ok((Lexeme::EndTag, whole.after))
 }
 
 /// Reads the start or end tag that begins at byte `at` of the text (#tag-name-state and #before-attribute-name-state to
@@ -254,13 +254,13 @@ pub fn scan_tag(
     ensures ok { IfOk result
         (λ r. Reads (read_tag table.now.entries (drop at text.now)) text.now r.0 r.1) }
     ensures err { IfErr result
-        (λ fault. fault ≢ ScanFault.Memory → read_tag table.now.entries (drop at text.now) ≡ refused fault) }
+        (λ fault. fault ≢ ScanFault.OutOfMemory → read_tag table.now.entries (drop at text.now) ≡ refused fault) }
     ensures forward { IfOk result (λ r. at < r.1) }
     ensures placed { IfOk result (λ r. (place : ℕ) → BeginsAt place r.0) }
 {
     let mut tag = Tag::new(alloc);
     match scan_tag_into(alloc, text, at, table, &mut tag) {
-        Ok((lexeme, behind)) => Ok((lexeme.token(tag), behind)),
+        Ok((lexeme, after)) => Ok((lexeme.token(tag), after)),
         Err(fault) => Err(fault),
     }
 }
@@ -280,7 +280,7 @@ pub fn scan_tag_into(
     ensures ok { IfOk result
         (λ r. Reads (read_tag table.now.entries (drop at text.now)) text.now (token_of r.0 tag.new) r.1) }
     ensures err { IfErr result
-        (λ fault. fault ≢ ScanFault.Memory → read_tag table.now.entries (drop at text.now) ≡ refused fault) }
+        (λ fault. fault ≢ ScanFault.OutOfMemory → read_tag table.now.entries (drop at text.now) ≡ refused fault) }
     ensures forward { IfOk result (λ r. at < r.1) }
     ensures placed { IfOk result (λ r. (place : ℕ) → BeginsAt place (token_of r.0 tag.new)) }
 {

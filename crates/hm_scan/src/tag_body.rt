@@ -13,7 +13,7 @@ use std::alloc::Global;
 pub(crate) struct TagBody {
     pub(crate) collected: Collected,
     pub(crate) slash: bool,
-    pub(crate) behind: usize,
+    pub(crate) after: usize,
 }
 
 /// Reads the tag whose name ends at `from`; `keeps` says whether its attributes are wanted. They are put into `attrs`,
@@ -38,11 +38,11 @@ pub(crate) fn read_body(
     loop {
         match next_part(bytes, at) {
             TagPart::Nothing => return Err(ScanFault::Cut),
-            TagPart::TagEnd { slash, behind } => {
+            TagPart::TagEnd { slash, after } => {
                 return Ok(TagBody {
                     collected,
                     slash,
-                    behind,
+                    after,
                 });
             }
             TagPart::Pair {
@@ -53,7 +53,7 @@ pub(crate) fn read_body(
                 let value = &text[attribute.value.from..attribute.value.to];
                 let plain = attribute.value.plain;
                 collected.take(alloc, name, attribute.plain, value, plain, table, attrs)?;
-                at = attribute.value.behind;
+                at = attribute.value.after;
             }
         }
     }

@@ -10,10 +10,10 @@ use crate::tag_runs::{ByteRun, run_end};
 pub(crate) enum TagPart {
     /// Nothing: the text ends.
     Nothing,
-    /// The tag's `>`, and whether a `/` stands directly before it. What follows it begins at `behind`.
+    /// The tag's `>`, and whether a `/` stands directly before it. What follows it begins at `after`.
     TagEnd {
         slash: bool,
-        behind: usize,
+        after: usize,
     },
     /// An attribute that begins at `at`.
     Pair {
@@ -44,7 +44,7 @@ pub(crate) fn next_part(bytes: &[u8], from: usize) -> TagPart
     if bytes[at] == b'>' {
         return TagPart::TagEnd {
             slash: ends_in_slash(bytes, from, at),
-            behind: at + 1,
+            after: at + 1,
         };
     }
     TagPart::Pair {

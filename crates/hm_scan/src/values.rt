@@ -4,7 +4,7 @@ ghost use Rattle.hm_refs.specs.Tables.{points_list};
 ghost use Rattle.hm_scan.specs.Reads.{IsNext};
 ghost use Rattle.hm_scan.specs.Values as values;
 
-use hm_base::{Memory, Points};
+use hm_base::{OutOfMemory, Points};
 use hm_refs::{Reference, Table, read_reference};
 use memchr::memchr;
 use std::alloc::Global;
@@ -43,7 +43,7 @@ pub(crate) fn has_reference(written: &str, table: &Table) -> bool
 }
 
 /// Appends the code points of a reference to a text.
-fn push_points(text: &mut String, points: Points) -> Result<(), Memory>
+fn push_points(text: &mut String, points: Points) -> Result<(), OutOfMemory>
     ensures { OnOk result
         (string_bytes text.new ≡ string_bytes text.old ++ encode_utf8_all (points_list points)) }
 {
@@ -56,7 +56,7 @@ fn push_points(text: &mut String, points: Points) -> Result<(), Memory>
 
 /// The value that is written so (#attribute-value-(double-quoted)-state to #attribute-value-(unquoted)-state): its character
 /// references are read (#character-reference-state).
-pub(crate) fn read_value(alloc: Global, written: &str, table: &Table) -> Result<String, Memory>
+pub(crate) fn read_value(alloc: Global, written: &str, table: &Table) -> Result<String, OutOfMemory>
     ensures { IfOk result
         (λ value. string_bytes value ≡ values.read_value table.now.entries written.now) }
 {

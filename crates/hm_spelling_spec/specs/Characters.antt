@@ -111,10 +111,10 @@ pub record CharacterRules : Type 0 where
 -- The piece is allowed before what follows it. A character stands as itself where it is read as itself; a reference stands
 -- where it is read as these code points and has these bytes.
 abbrev pub IsAllowed : List Entry → CharacterRules → Spot → Piece → List ℕ → Type 0
-IsAllowed t rules spot (itself c) behind = (may_stand rules.ascii spot c ≡ true) × (stays t spot c behind ≡ true)
-IsAllowed t rules spot (reference_to b qs) behind =
-    (head_is rules.refers qs ≡ true) × (reference t (is_value spot) (b ++ behind) ≡ Some (record { points = qs; len = length b }))
-IsAllowed t rules spot (section cs) behind = (is_foreign spot ≡ true) × (is_section rules.ascii cs ≡ true)
+IsAllowed t rules spot (itself c) after = (may_stand rules.ascii spot c ≡ true) × (stays t spot c after ≡ true)
+IsAllowed t rules spot (reference_to b qs) after =
+    (head_is rules.refers qs ≡ true) × (reference t (is_value spot) (b ++ after) ≡ Some (record { points = qs; len = length b }))
+IsAllowed t rules spot (section cs) after = (is_foreign spot ≡ true) × (is_section rules.ascii cs ≡ true)
 
 -- each piece is allowed before the pieces after it and what follows them all
 abbrev pub AreAllowed : List Entry → CharacterRules → Spot → List Piece → List ℕ → Type 0

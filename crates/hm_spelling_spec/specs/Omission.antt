@@ -6,7 +6,7 @@ use Rattle.hm_base.specs.Walks.{Attribute, Event, start, text, end, Element, beg
 use Rattle.hm_base.specs.declared.plain.SpellRules.{SpellRules}
 use Rattle.hm_elements.specs.Names.{is_among, html, head, body}
 use Rattle.hm_elements.specs.Paths.{current}
-use Rattle.hm_elements.specs.Omission.{goes_before, goes_up, start_goes_before, bars_start, head_takers}
+use Rattle.hm_elements.specs.Omission.{end_tag_optional_before, end_tag_optional_in, start_tag_optional_before, start_tag_required_after, head_takers}
 
 -- the name of an element whose end tag was left out directly before, if one was
 abbrev pub LeftOut : Type 0
@@ -14,7 +14,7 @@ LeftOut = Option (List ℕ)
 
 abbrev pub bars : LeftOut → List ℕ → Bool
 bars None n = false
-bars (Some m) n = bars_start m n
+bars (Some m) n = start_tag_required_after m n
 
 -- a text that begins with whitespace
 abbrev pub begins_space : List Event → Bool
@@ -31,7 +31,7 @@ begins_for_head w = false
 
 -- the start of a child of HTML before which the start tag of this element may be left out
 abbrev pub begins_child_of : List ℕ → List Event → Bool
-begins_child_of n (start m foreign attributes ∷ w) = not foreign && start_goes_before n m
+begins_child_of n (start m foreign attributes ∷ w) = not foreign && start_tag_optional_before n m
 begins_child_of n w = false
 
 -- The start tag of an HTML element without attributes may be left out, by what stands inside it.
@@ -53,8 +53,8 @@ may_omit_start r before n foreign attributes w = r.omit && (not foreign && (has_
 -- What follows the end of an element in this parent allows its end tag to be left out: the start of one of certain HTML
 -- elements, or the end of one of certain parents.
 abbrev pub end_goes : List ℕ → List ℕ → List Event → Bool
-end_goes n parent (start m foreign attributes ∷ w) = not foreign && goes_before n m
-end_goes n parent (end m foreign ∷ w) = goes_up n parent
+end_goes n parent (start m foreign attributes ∷ w) = not foreign && end_tag_optional_before n m
+end_goes n parent (end m foreign ∷ w) = end_tag_optional_in n parent
 end_goes n parent w = false
 
 -- The end tag of an HTML element may be left out, by its parent and by what follows it.

@@ -7,7 +7,7 @@ use Rattle.hm_base.specs.Walks.{Event, doctype, start, text, end}
 use Rattle.hm_base.specs.declared.plain.SpellRules.{SpellRules}
 use Rattle.hm_elements.specs.Names.{is_among}
 use Rattle.hm_elements.specs.Tables.{voids, rcdata_names, sections, blocks, headings, is_void, is_rcdata, is_section}
-use Rattle.hm_elements.specs.Omission.{before_rows, goes_before, up_names, up_of_p, goes_up, start_rows, start_goes_before, bars_start}
+use Rattle.hm_elements.specs.Omission.{before_rows, end_tag_optional_before, up_names, up_of_p, end_tag_optional_in, start_rows, start_tag_optional_before, start_tag_required_after}
 use Rattle.hm_markup_spec.specs.Gaps.{is_gap}
 use Rattle.hm_markup_spec.specs.Tags.{bare, unquoted, double, single}
 use Rattle.hm_refs.specs.Examples.{seven}
@@ -19,7 +19,7 @@ use Rattle.hm_spelling_spec.specs.Omission.{head_takes, start_falls, may_omit_st
 use Rattle.hm_spelling_spec.specs.Spellings.{drops_first_line_feed, omitted, written, slashed, absent, Spells}
 
 unfoldable pub on_literals : ⊤
-unfolding chars encode is_space is_letter is_alnum is_digit_of lower is_among voids rcdata_names sections blocks headings is_void is_rcdata is_section before_rows goes_before up_names up_of_p goes_up start_rows start_goes_before bars_start is_gap found_here point_of best_number reference value_of is_blocked opens_text is_barred is_writable may_stand stays is_cdata head_takes start_falls may_omit_start end_falls may_omit_end drops_first_line_feed
+unfolding chars encode is_space is_letter is_alnum is_digit_of lower is_among voids rcdata_names sections blocks headings is_void is_rcdata is_section before_rows end_tag_optional_before up_names up_of_p end_tag_optional_in start_rows start_tag_optional_before start_tag_required_after is_gap found_here point_of best_number reference value_of is_blocked opens_text is_barred is_writable may_stand stays is_cdata head_takes start_falls may_omit_start end_falls may_omit_end drops_first_line_feed
 on_literals = tt
 
 abbrev usual : SpellRules

@@ -71,9 +71,9 @@ StartSp g before n foreign attributes w written b after = SpellsStart g n attrib
 StartSp g before n foreign attributes w slashed b after = (may_be_slashed n foreign w ≡ true) × SpellsStart g n attributes true b after
 
 -- an element of SVG whose start tag has a '/' has no end tag
-abbrev pub behind_start : Bool → StartForm → Before
-behind_start true slashed = self_closing
-behind_start foreign form = opening
+abbrev pub after_start : Bool → StartForm → Before
+after_start true slashed = self_closing
+after_start foreign form = opening
 
 -- ---- End tags
 
@@ -95,9 +95,9 @@ EndSp g before n foreign path w absent b = (b ≡ []) × (has_no_end_tag before 
 EndSp g before n foreign path w omitted b = (b ≡ []) × (has_no_end_tag before n foreign ≡ false) × (may_omit_end g.rules n foreign path w ≡ true)
 EndSp g before n foreign path w written b = (has_no_end_tag before n foreign ≡ false) × WritesEnd n b
 
-abbrev pub behind_end : List ℕ → EndForm → Before
-behind_end n omitted = end_omitted n
-behind_end n form = other
+abbrev pub after_end : List ℕ → EndForm → Before
+after_end n omitted = end_omitted n
+after_end n form = other
 
 -- ---- Trees
 
@@ -109,10 +109,10 @@ SpellsFrom g before path (comment s ∷ w) b = (rest : List ℕ) × (b ≡ codes
 SpellsFrom g before path (text s raw ∷ w) b = (piece rest : List ℕ) × (b ≡ piece ++ rest) × TextSp g before path s raw piece rest × SpellsFrom g other path w rest
 SpellsFrom g before path (start n foreign attributes ∷ w) b =
     (form : StartForm) × (piece rest : List ℕ) × (b ≡ piece ++ rest) × StartSp g before n foreign attributes w form piece rest
-    × SpellsFrom g (behind_start foreign form) (record { name = n; foreign = foreign } ∷ path) w rest
+    × SpellsFrom g (after_start foreign form) (record { name = n; foreign = foreign } ∷ path) w rest
 SpellsFrom g before path (end n foreign ∷ w) b =
     (form : EndForm) × (piece rest : List ℕ) × (b ≡ piece ++ rest) × EndSp g before n foreign (outer path) w form piece
-    × SpellsFrom g (behind_end n form) (outer path) w rest
+    × SpellsFrom g (after_end n form) (outer path) w rest
 
 -- b spells a tree where a reference may begin at these characters alone
 abbrev pub SpellsWhere : (ℕ → Bool) → List Entry → SpellRules → List Event → List ℕ → Type 0

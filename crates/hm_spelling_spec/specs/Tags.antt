@@ -4,7 +4,7 @@ use Rattle.hm_base.specs.Bytes.{is_null}
 use Rattle.hm_base.specs.Walks.{Attribute}
 use Rattle.hm_base.specs.declared.plain.SpellRules.{SpellRules}
 use Rattle.hm_markup_spec.specs.Doctypes.{WritesDoctype}
-use Rattle.hm_markup_spec.specs.Tags.{Form, bare, unquoted, double, single, IsAssigned, WritesStart}
+use Rattle.hm_markup_spec.specs.Tags.{Quoting, bare, unquoted, double, single, IsAssigned, WritesStart}
 use Rattle.hm_refs.specs.Names.{Entry}
 use Rattle.hm_spelling_spec.specs.Characters as spots
 use Rattle.hm_spelling_spec.specs.Characters.{CharacterRules, SpellsText}
@@ -33,7 +33,7 @@ pub record IsQuotedValue (g : Spelling) (spot : spots.Spot) (quote : ℕ) (value
   pub spells : SpellsText g.table (character_rules g) spot value written (quote ∷ after)
 
 -- b spells a value in this form, with its '=', where `after` follows b
-abbrev pub SpellsValue : Spelling → Form → List ℕ → List ℕ → List ℕ → Type 0
+abbrev pub SpellsValue : Spelling → Quoting → List ℕ → List ℕ → List ℕ → Type 0
 SpellsValue g bare value b after = (value ≡ []) × (b ≡ [])
 SpellsValue g unquoted value b after = IsBareValue g value b after
 SpellsValue g double value b after = IsQuotedValue g spots.double 34 value b after

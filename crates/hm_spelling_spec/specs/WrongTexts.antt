@@ -54,9 +54,9 @@ unfolding on_literals
 comment_in_head = refl
 
 -- the end tag of body before a comment after it, which would be a child of body
-comment_behind_body : may_omit_end usual body false (html_element html ∷ []) (comment (codes "x") ∷ []) ≡ false
+comment_after_body : may_omit_end usual body false (html_element html ∷ []) (comment (codes "x") ∷ []) ≡ false
 unfolding on_literals
-comment_behind_body = refl
+comment_after_body = refl
 
 -- `&not` before `in;`, which is another character's name
 longer_name : reference seven false (codes "&notin;") ≡ Some (record { points = 8713 ∷ []; len = 7 })
@@ -83,9 +83,9 @@ unfolding on_literals
 equals_unquoted = refl
 
 -- '/' directly after a value without quotes
-slash_behind_value : is_gap (parts_slash unquoted) [] ≡ false
+slash_after_value : is_gap (parts_slash unquoted) [] ≡ false
 unfolding on_literals
-slash_behind_value = refl
+slash_after_value = refl
 
 -- a section that holds `]]>`
 split_section : is_cdata false (codes "a]]>b") ≡ false

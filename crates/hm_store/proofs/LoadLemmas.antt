@@ -22,11 +22,11 @@ takes file rest taken most e h (inl none) =
 takes file rest taken most e h (inr full) = sym (take_at taken rest most full) ∙ ap (take most) e
 
 -- a load that is at the end, or that has taken enough
-pub taken_behind : (file rest : Option (List ℕ)) (front bytes : List ℕ) (most : ℕ) → prepend_known bytes rest ≡ prepend_known front file → StartsWith bytes front
+pub taken_after : (file rest : Option (List ℕ)) (front bytes : List ℕ) (most : ℕ) → prepend_known bytes rest ≡ prepend_known front file → StartsWith bytes front
     → length bytes ≤ length front + most → IsAtEnd rest ⊎ (length bytes ≡ length front + most) → Takes file most (drop (length front) bytes)
-taken_behind None rest front bytes most e h within end = tt
-taken_behind (Some file) None front bytes most e h within end = absurd (cc)
-taken_behind (Some file) (Some rest) front bytes most e h within end =
+taken_after None rest front bytes most e h within end = tt
+taken_after (Some file) None front bytes most e h within end = absurd (cc)
+taken_after (Some file) (Some rest) front bytes most e h within end =
     let long = length-drop (length front) bytes in
     let whole : bytes ++ rest ≡ front ++ file = some_is _ _ e in
     let ends : (rest ≡ []) ⊎ (length (drop (length front) bytes) ≡ most) = elim end [ inl none ↦ inl none | inr full ↦ inr (omega arith) ] in
@@ -37,4 +37,4 @@ pub taken_over : (file rest : Option (List ℕ)) (bytes : List ℕ) (at most : �
     → at ≤ length bytes → at ≤ most → IsAtEnd rest ⊎ (at ≡ most) → Takes file most (take at bytes)
 taken_over file rest bytes at most e there within end =
     let long = length-take-le at bytes there in
-    taken_behind file rest [] (take at bytes) most e refl (omega (arith, long)) (elim end [ inl none ↦ inl none | inr full ↦ inr (omega (arith, long)) ])
+    taken_after file rest [] (take at bytes) most e refl (omega (arith, long)) (elim end [ inl none ↦ inl none | inr full ↦ inr (omega (arith, long)) ])

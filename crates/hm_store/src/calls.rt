@@ -5,7 +5,7 @@ ghost use Rattle.hm_store.specs.Causes.{one_more, Rose};
 
 use crate::Failed;
 use crate::faults::count_failure;
-use hm_base::Memory;
+use hm_base::OutOfMemory;
 use std::alloc::Global;
 use std::collections::BTreeSet;
 use std::marker::Model;
@@ -47,7 +47,7 @@ impl Calls {
     }
 
     /// Lists a call to fail.
-    pub(crate) fn list(&mut self, number: u32) -> Result<(), Memory>
+    pub(crate) fn list(&mut self, number: u32) -> Result<(), OutOfMemory>
         ensures ok { OnOk result (self.new ≡ with_listed self.old number) }
         ensures err { OnErr result (self.new ≡ self.old) }
     {

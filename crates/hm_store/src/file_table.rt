@@ -5,7 +5,7 @@ ghost use Rattle.std.specs.FinMap as finmap;
 ghost use Rattle.hm_store.specs.Files.{content};
 ghost use Rattle.hm_store.specs.NamedFiles.{no_files, name_at, appended_at};
 
-use hm_base::Memory;
+use hm_base::OutOfMemory;
 use indexmap::IndexMap;
 use std::alloc::Global;
 use std::marker::Model;
@@ -70,7 +70,7 @@ impl FileTable {
     }
 
     /// Appends bytes to the file at a place.
-    pub(crate) fn append(&mut self, place: usize, bytes: &[u8]) -> Result<(), Memory>
+    pub(crate) fn append(&mut self, place: usize, bytes: &[u8]) -> Result<(), OutOfMemory>
         requires { place < length self.old.names }
         ensures ok { OnOk result (self.new ≡ appended_at self.old place bytes.now) }
         ensures err { OnErr result (self.new ≡ self.old) }
@@ -82,7 +82,7 @@ impl FileTable {
     }
 
     /// Puts a file, which replaces one of that name, and returns its place.
-    pub(crate) fn set(&mut self, name: &str, bytes: &[u8]) -> Result<usize, Memory>
+    pub(crate) fn set(&mut self, name: &str, bytes: &[u8]) -> Result<usize, OutOfMemory>
         ensures files { OnOk result (self.new.files ≡ finmap.insert self.old.files name.now bytes.now) }
         ensures places { OnOk result
             ((more : List (List ℕ)) × (self.new.names ≡ self.old.names ++ more)) }

@@ -19,4 +19,4 @@ pub use mem_sink::MemSink;
 pub use mem_store::MemStore;
 pub use outside::{FileStore, WriteSink};
 pub use traits::{Failed, Sink, Store};
-pub use whole_files::{LoadFault, load, load_behind, load_over, write_file};
+pub use whole_files::{LoadFault, load, load_over, load_with_prefix, write_file};

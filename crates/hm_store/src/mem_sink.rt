@@ -8,7 +8,7 @@ ghost use Rattle.hm_store.specs.Tears.{tear_next, with_tear, after_put, front_of
 use crate::calls::Calls;
 use crate::tears::{Tears, front};
 use crate::{Failed, Sink};
-use hm_base::Memory;
+use hm_base::OutOfMemory;
 use std::alloc::Global;
 use std::marker::Model;
 
@@ -47,7 +47,7 @@ impl MemSink {
     }
 
     /// Lists the call of that number to fail. Calls of `put` are numbered from 1.
-    pub fn fail(&mut self, call: u32) -> Result<(), Memory>
+    pub fn fail(&mut self, call: u32) -> Result<(), OutOfMemory>
         ensures ok { OnOk result (self.new ≡ record self.old { calls = with_listed self.old.calls call }) }
         ensures err { OnErr result (self.new ≡ self.old) }
     {
@@ -57,7 +57,7 @@ impl MemSink {
     /// Lists the put of that number to be torn: it appends the first `bytes` bytes of its own, all where it has fewer, and fails.
     /// Calls of `put` are numbered from 1. One that is listed to fail too changes nothing, and a second tear of one put
     /// replaces the first.
-    pub fn tear(&mut self, put: u32, bytes: u32) -> Result<(), Memory>
+    pub fn tear(&mut self, put: u32, bytes: u32) -> Result<(), OutOfMemory>
         ensures ok { OnOk result (self.new ≡ record self.old { tears = with_tear self.old.tears put bytes }) }
         ensures err { OnErr result (self.new ≡ self.old) }
     {

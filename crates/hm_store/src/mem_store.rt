@@ -13,7 +13,7 @@ use crate::calls::Calls;
 use crate::file_table::FileTable;
 use crate::tears::{Tears, front};
 use crate::{Failed, Store};
-use hm_base::Memory;
+use hm_base::OutOfMemory;
 use std::alloc::Global;
 use std::marker::Model;
 
@@ -73,7 +73,7 @@ impl MemStore {
     }
 
     /// Puts a file, which replaces one of that name.
-    pub fn add(&mut self, name: &str, bytes: &[u8]) -> Result<(), Memory>
+    pub fn add(&mut self, name: &str, bytes: &[u8]) -> Result<(), OutOfMemory>
         ensures ok { OnOk result (self.new ≡ record self.old {
           files = finmap.insert self.old.files name.now bytes.now;
         }) }
@@ -84,7 +84,7 @@ impl MemStore {
     }
 
     /// Lists the call of that number to fail. The calls of all methods of `Store` are numbered from 1.
-    pub fn fail(&mut self, call: u32) -> Result<(), Memory>
+    pub fn fail(&mut self, call: u32) -> Result<(), OutOfMemory>
         ensures ok { OnOk result (self.new ≡ record self.old { calls = with_listed self.old.calls call }) }
         ensures err { OnErr result (self.new ≡ self.old) }
     {
@@ -94,7 +94,7 @@ impl MemStore {
     /// Lists the put of that number to be torn: it appends the first `bytes` bytes of its own, all where it has fewer, and fails.
     /// Calls of `put` alone are numbered from 1. One that is listed to fail too changes nothing, and a second tear of one put
     /// replaces the first.
-    pub fn tear(&mut self, put: u32, bytes: u32) -> Result<(), Memory>
+    pub fn tear(&mut self, put: u32, bytes: u32) -> Result<(), OutOfMemory>
         ensures ok { OnOk result (self.new ≡ record self.old { tears = with_tear self.old.tears put bytes }) }
         ensures err { OnErr result (self.new ≡ self.old) }
     {
@@ -215,7 +215,7 @@ impl Store for MemStore {
                 self.writing = Some(place);
                 Ok(())
             }
-            Err(Memory) => Err(self.calls.fail()),
+            Err(OutOfMemory) => Err(self.calls.fail()),
         }
     }
 

@@ -2,7 +2,7 @@
 ghost use Rattle.std.specs.Prelude.{◌≡◌, OnOk, OnErr};
 ghost use Rattle.hm_store.specs.Tears.{no_tears, tear_next, with_tear, after_put, front_of};
 
-use hm_base::Memory;
+use hm_base::OutOfMemory;
 use std::alloc::Global;
 use std::collections::BTreeMap;
 use std::marker::Model;
@@ -41,7 +41,7 @@ impl Tears {
     }
 
     /// Lists a put to be torn after this many bytes.
-    pub(crate) fn list(&mut self, put: u32, bytes: u32) -> Result<(), Memory>
+    pub(crate) fn list(&mut self, put: u32, bytes: u32) -> Result<(), OutOfMemory>
         ensures ok { OnOk result (self.new ≡ with_tear self.old put bytes) }
         ensures err { OnErr result (self.new ≡ self.old) }
     {

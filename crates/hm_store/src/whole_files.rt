@@ -14,17 +14,17 @@ pub enum LoadFault {
     /// A call on the store has failed, or the store has no such file.
     Store,
     /// Memory for the bytes was refused.
-    Memory,
+    OutOfMemory,
 }
 
 impl From<AllocError> for LoadFault {
     ghost use Rattle.hm_store.specs.declared.whole_files.LoadFault.{LoadFault};
-    ghost use Rattle.hm_store.specs.declared.whole_files.LoadFault.TheVariants.{Memory};
+    ghost use Rattle.hm_store.specs.declared.whole_files.LoadFault.TheVariants.{OutOfMemory};
 
-    ghost from_gives = { λ _ fault. fault ≡ Memory };
+    ghost from_gives = { λ _ fault. fault ≡ OutOfMemory };
 
     fn from(_error: AllocError) -> Self {
-        LoadFault::Memory
+        LoadFault::OutOfMemory
     }
 }
 
@@ -185,7 +185,7 @@ fn pull_over<S: Store>(store: &mut S, bytes: &mut Vec<u8>, limit: usize) -> Resu
 }
 
 /// `front`, and after it the bytes of a file, at most one more than `limit`, so that a longer file is noticed.
-pub fn load_behind<S: Store>(
+pub fn load_with_prefix<S: Store>(
     alloc: Global,
     store: &mut S,
     name: &str,
@@ -242,7 +242,7 @@ pub fn load<S: Store>(
         → Rose (S.faults store.old) (S.faults store.new) ⊎ IsMissing (S.files store.old) name.now }
     ensures missing { IsMissing (S.files store.old) name.now → result ≡ Err LoadFault.Store }
 {
-    load_behind(alloc, store, name, &[], limit)
+    load_with_prefix(alloc, store, name, &[], limit)
 }
 
 /// Loads a file into `bytes`, at most one byte more than `limit`, so that a longer file is noticed. What `bytes` holds is what

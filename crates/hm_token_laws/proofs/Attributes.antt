@@ -16,29 +16,29 @@ use Rattle.hm_scan.specs.Tags.{is_later_byte, is_tag_end}
 use Rattle.hm_scan.specs.Reading.{attribute_limit, is_bad_byte, is_bad_name, has_bad_name, read_attribute, without_name, without_repeats, read_attributes}
 use Rattle.hm_token_laws.specs.Laws.{IsPlain, SoundNames}
 use Rattle.hm_token_laws.proofs.Bools.{or_parts}
-use Rattle.hm_token_laws.proofs.Plain.{utf8_both, utf8_before, utf8_from, utf8_behind, no_zero_byte}
+use Rattle.hm_token_laws.proofs.Plain.{utf8_both, utf8_before, utf8_from, utf8_after, no_zero_byte}
 use Rattle.hm_token_laws.proofs.References.{is_ascii, low_ascii}
 use Rattle.hm_token_laws.proofs.TagParts.{GoodAttribute, AllGood}
 use Rattle.hm_token_laws.proofs.Values.{ascii_utf8, read_value_utf8, read_value_no_zero, read_value_size}
 
 -- ---- names in small letters
 
-lower_utf8_behind : (s p : List ℕ) → is_utf8 (p ++ s) ≡ true → is_utf8 (p ++ map lower s) ≡ true
-lower_utf8_behind [] p h = h
-lower_utf8_behind (c ∷ s) p h = by_case (lower_cases c) (λ q i. lower_utf8_behind s q i)
+lower_utf8_after : (s p : List ℕ) → is_utf8 (p ++ s) ≡ true → is_utf8 (p ++ map lower s) ≡ true
+lower_utf8_after [] p h = h
+lower_utf8_after (c ∷ s) p h = by_case (lower_cases c) (λ q i. lower_utf8_after s q i)
   where
     by_case : ((65 ≤ c) × (c ≤ 90) × (lower c ≡ c + 32)) ⊎ (((c < 65) ⊎ (90 < c)) × (lower c ≡ c)) → ((q : List ℕ) → is_utf8 (q ++ s) ≡ true → is_utf8 (q ++ map lower s) ≡ true)
         → is_utf8 (p ++ lower c ∷ map lower s) ≡ true
     by_case (inl (low, high, e)) more =
         let front = utf8_before p s c (omega arith) h in
-        let rest = more [] (utf8_behind s c (omega arith) (utf8_from p s c (omega arith) h)) in
+        let rest = more [] (utf8_after s c (omega arith) (utf8_from p s c (omega arith) h)) in
         let one : is_ascii (lower c) ≡ true = low_ascii (lower c) (omega arith) in
         utf8_both p _ front (utf8_both (lower c ∷ []) (map lower s) (ascii_utf8 (lower c ∷ []) (rw one refl)) rest)
     by_case (inr (apart, e)) more = rw e (
         subst (λ x. is_utf8 x ≡ true) (append_assoc p (c ∷ []) (map lower s)) (more (p ++ c ∷ []) (subst (λ x. is_utf8 x ≡ true) (sym (append_assoc p (c ∷ []) s)) h)))
 
 pub lower_utf8 : (s : List ℕ) → is_utf8 s ≡ true → is_utf8 (map lower s) ≡ true
-lower_utf8 s h = lower_utf8_behind s [] h
+lower_utf8 s h = lower_utf8_after s [] h
 
 small_byte : (d : ℕ) → 97 ≤ d → d ≤ 122 → is_attribute_byte d ≡ true
 unfolding is_attribute_byte is_space

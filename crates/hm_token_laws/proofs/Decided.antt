@@ -1,7 +1,7 @@
 -- A reference is decided by the bytes before the first one that can't go on.
 use Rattle.std.proofs.Common.{◌≡◌, ℕ, ◌+◌, ◌<◌, ◌≤◌, ◌⊎◌, Bool, true, false, cond, not, ◌&&◌, ◌||◌, ◌==◌, List, [], ◌∷◌, ◌++◌, length, Option, Some, None, option_map, refl, inl, inr, ap, ap₂, ◌∙◌, arith}
 use Rattle.std.proofs.lemmas.Bool.{cases_lt}
-use Rattle.hm_base.specs.Bytes.{front, behind, head_is, is_null, is_alnum, is_letter, is_digit_of}
+use Rattle.hm_base.specs.Bytes.{front, rest_after, head_is, is_null, is_alnum, is_letter, is_digit_of}
 use Rattle.hm_refs.specs.Names.{Entry, points_of, is_name, is_front, Found, or_else, found_by, found_here, found, longest, is_closed}
 use Rattle.hm_refs.specs.Numbers.{point_of}
 use Rattle.hm_refs.specs.References.{value_of, is_semicolon, numeric, hash, blocks, is_blocked, named, reference_by, reference}
@@ -31,9 +31,9 @@ front_stops : (p : ℕ → Bool) (s : List ℕ) (d : ℕ) (y : List ℕ) → p d
 front_stops p [] d y h = rw h refl
 front_stops p (c ∷ s) d y h = ap (λ x. cond (p c) (c ∷ x) []) (front_stops p s d y h)
 
-behind_stops : (p : ℕ → Bool) (s : List ℕ) (d : ℕ) (y : List ℕ) → p d ≡ false → behind p (s ++ d ∷ y) ≡ behind p s ++ d ∷ y
-behind_stops p [] d y h = rw h refl
-behind_stops p (c ∷ s) d y h = elim (p c) as (λ b. cond b (behind p (s ++ d ∷ y)) (c ∷ (s ++ d ∷ y)) ≡ cond b (behind p s) (c ∷ s) ++ d ∷ y) [ true ↦ behind_stops p s d y h | false ↦ refl ]
+after_stops : (p : ℕ → Bool) (s : List ℕ) (d : ℕ) (y : List ℕ) → p d ≡ false → rest_after p (s ++ d ∷ y) ≡ rest_after p s ++ d ∷ y
+after_stops p [] d y h = rw h refl
+after_stops p (c ∷ s) d y h = elim (p c) as (λ b. cond b (rest_after p (s ++ d ∷ y)) (c ∷ (s ++ d ∷ y)) ≡ cond b (rest_after p s) (c ∷ s) ++ d ∷ y) [ true ↦ after_stops p s d y h | false ↦ refl ]
 
 head_stops : (p : ℕ → Bool) (s : List ℕ) (d : ℕ) (y : List ℕ) → p d ≡ false → head_is p (s ++ d ∷ y) ≡ head_is p s
 head_stops p [] d y h = h
@@ -44,10 +44,10 @@ numeric_alike before base [] r x h = refl
 numeric_alike before base (c ∷ ds) r x h = ap (λ b. Some (record { points = point_of (value_of base (c ∷ ds)) ∷ []; len = before + length (c ∷ ds) + cond b 1 0 })) h
 
 numeric_stops : (before base : ℕ) (s : List ℕ) (d : ℕ) (y : List ℕ) → is_digit_of base d ≡ false → (d == 59) ≡ false
-    → numeric before base (front (is_digit_of base) (s ++ d ∷ y)) (behind (is_digit_of base) (s ++ d ∷ y)) ≡ numeric before base (front (is_digit_of base) s) (behind (is_digit_of base) s)
+    → numeric before base (front (is_digit_of base) (s ++ d ∷ y)) (rest_after (is_digit_of base) (s ++ d ∷ y)) ≡ numeric before base (front (is_digit_of base) s) (rest_after (is_digit_of base) s)
 numeric_stops before base s d y h i =
-    rw (front_stops (is_digit_of base) s d y h, behind_stops (is_digit_of base) s d y h)
-    (numeric_alike before base (front (is_digit_of base) s) (behind (is_digit_of base) s) (behind (is_digit_of base) s ++ d ∷ y) (head_stops is_semicolon (behind (is_digit_of base) s) d y (turned d 59 i)))
+    rw (front_stops (is_digit_of base) s d y h, after_stops (is_digit_of base) s d y h)
+    (numeric_alike before base (front (is_digit_of base) s) (rest_after (is_digit_of base) s) (rest_after (is_digit_of base) s ++ d ∷ y) (head_stops is_semicolon (rest_after (is_digit_of base) s) d y (turned d 59 i)))
 
 no_decimal : (d : ℕ) → is_alnum d ≡ false → is_digit_of 10 d ≡ false
 unfolding is_alnum

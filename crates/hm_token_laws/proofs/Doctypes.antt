@@ -31,13 +31,13 @@ record DoctypeTaken (o : Option Cut) (token : Seen) (rest : List ℕ) : Type 0 w
   legacy : Bool
   is : o ≡ Some cut
   token_is : doctype legacy ≡ token
-  rest_is : cut.behind ≡ rest
+  rest_is : cut.after ≡ rest
 
 doctype_taken : (o : Option Cut) (token : Seen) (rest : List ℕ) → as_doctype o ≡ taken token rest → DoctypeTaken o token rest
 doctype_taken None token rest h = absurd (cc)
 doctype_taken (Some k) token rest h = by_form_of (doctype_form k.before) h
   where
-    by_form_of : (f : Option Bool) → by_form f k.behind ≡ taken token rest → DoctypeTaken (Some k) token rest
+    by_form_of : (f : Option Bool) → by_form f k.after ≡ taken token rest → DoctypeTaken (Some k) token rest
     by_form_of None h = absurd (cc)
     by_form_of (Some legacy) h = record { cut = k; legacy = legacy; is = refl; token_is = cc; rest_is = cc }
 
@@ -67,7 +67,7 @@ unfolding read_doctype
 doctype_sound mode s token rest reads begun plain h =
     let k = doctype_taken (cut_at (codes ">") (drop 9 s)) token rest h in
     let parts = cut_plain s k.cut (doctype_cut s k.cut begun k.is).cut plain in
-    (subst (SoundToken mode) k.token_is reads, subst IsPlain k.rest_is parts.behind_plain)
+    (subst (SoundToken mode) k.token_is reads, subst IsPlain k.rest_is parts.after_plain)
 
 pub doctype_takes : (s : List ℕ) (token : Seen) (rest : List ℕ) → begins_doctype s ≡ true → read_doctype s ≡ taken token rest → TakesBytes s 0 token rest
 unfolding read_doctype
@@ -77,5 +77,5 @@ doctype_takes s token rest begun h =
     let size = (cut_size s k.cut c.cut).whole in
     let some = c.cut.some in
     let nine = c.long in
-    let there : TakesBytes s 0 (doctype k.legacy) k.cut.behind = record { count = length c.cut.before + length k.cut.before + length c.cut.mark; whole = omega arith; size = omega arith; least = omega arith } in
+    let there : TakesBytes s 0 (doctype k.legacy) k.cut.after = record { count = length c.cut.before + length k.cut.before + length c.cut.mark; whole = omega arith; size = omega arith; least = omega arith } in
     subst (λ x. TakesBytes s 0 x rest) k.token_is (subst (λ x. TakesBytes s 0 (doctype k.legacy) x) k.rest_is there)

@@ -52,7 +52,7 @@ end_tag_begins name h = rw (strip_itself name (codes ">") (name_bytes name h)) r
 cut_plain : (s text tail name : List ℕ) → s ≡ text ++ tail → EndTagHere name tail → IsPlain s → IsPlain text × IsPlain tail
 cut_plain s text tail name e k h =
     let h' = subst (λ x. IsPlain (text ++ x)) k.is (subst IsPlain e h) in
-    (plain_before text (47 ∷ k.behind_slash) 60 (omega arith) h', rw k.is (plain_from text (47 ∷ k.behind_slash) 60 (omega arith) h'))
+    (plain_before text (47 ∷ k.after_slash) 60 (omega arith) h', rw k.is (plain_from text (47 ∷ k.after_slash) 60 (omega arith) h'))
 
 taken_some : (n : ℕ) (s : List ℕ) → suc n < length s → is_null (take (suc n) s) ≡ false
 taken_some n [] h = absurd (omega arith)
@@ -166,7 +166,7 @@ references_take t name s o token rest names (before_end n found long k h) =
     let p = piece t true text token b.left names (taken_some n s long) (no_markup_in (begins_markup text)) b.is in
     let takes = piece_takes t true text token b.left p in
     let all : length s ≡ length text + length tail = ap length (sym (take-append-drop (suc n) s)) ∙ length-append text tail in
-    let behind : length rest ≡ length b.left + length tail = ap length (sym b.rest_is) ∙ length-append b.left tail in
+    let after : length rest ≡ length b.left + length tail = ap length (sym b.rest_is) ∙ length-append b.left tail in
     let whole = takes.whole in
     let size = takes.size in
     let least = takes.least in

@@ -9,10 +9,10 @@ use Rattle.hm_scan.specs.Texts.{begins_markup, read_text}
 use Rattle.hm_scan.specs.Comments.{read_comment, begins_cdata, read_cdata}
 use Rattle.hm_scan.specs.Doctypes.{begins_doctype, read_doctype}
 use Rattle.hm_tree.specs.Tokens.{Seen, Scanned, taken}
-use Rattle.hm_token_laws.specs.First.{Mode, ordinary, in_svg, rcdata, raw, script, behind_bytes, read_markup, read_here, Behind, three_more, behind_none, behind_empty_tags, next_here, read_inside, read_references, read_nothing, unless_end, first}
+use Rattle.hm_token_laws.specs.First.{Mode, ordinary, in_svg, rcdata, raw, script, after_bytes, read_markup, read_here, Remainder, three_more, nothing_skipped, after_empty_tags, next_here, read_inside, read_references, read_nothing, unless_end, first}
 use Rattle.hm_token_laws.specs.First as next
 use Rattle.hm_token_laws.specs.Laws.{IsPlain, SoundNames, reads_markup, reads_references, EndsElement, IsWhole, SoundToken, TokensAreSound, TakesBytes, TokensAreSmall}
-use Rattle.hm_token_laws.proofs.Plain.{plain_behind_all}
+use Rattle.hm_token_laws.proofs.Plain.{plain_after_all}
 use Rattle.hm_token_laws.proofs.References.{is_ascii, ascii_low}
 use Rattle.hm_token_laws.proofs.Tags.{tag_sound, tag_takes}
 use Rattle.hm_token_laws.proofs.Comments.{comment_sound, comment_takes}
@@ -23,20 +23,20 @@ use Rattle.hm_token_laws.proofs.Elements.{raw_ends_at, script_ends_at, script_is
 
 -- ---- `</>` at the start
 
-pub record EmptyTags (s : List ℕ) (k : Behind) : Type 0 where
+pub record EmptyTags (s : List ℕ) (k : Remainder) : Type 0 where
   pub written : List ℕ
   pub is : s ≡ written ++ k.rest
   pub count : k.count ≡ length written
   pub low : all_pass is_ascii written ≡ true
 
-pub empty_tags : (s : List ℕ) → EmptyTags s (behind_empty_tags s)
+pub empty_tags : (s : List ℕ) → EmptyTags s (after_empty_tags s)
 unfolding is_ascii
 empty_tags [] = record { written = []; is = refl; count = refl; low = refl }
 empty_tags (a ∷ []) = record { written = []; is = refl; count = refl; low = refl }
 empty_tags (a ∷ b ∷ []) = record { written = []; is = refl; count = refl; low = refl }
 empty_tags (a ∷ b ∷ c ∷ s) = by_test (a == 60 && (b == 47 && c == 62)) refl (empty_tags s)
   where
-    by_test : (x : Bool) → (a == 60 && (b == 47 && c == 62)) ≡ x → EmptyTags s (behind_empty_tags s) → EmptyTags (a ∷ b ∷ c ∷ s) (cond x (three_more (behind_empty_tags s)) (behind_none (a ∷ b ∷ c ∷ s)))
+    by_test : (x : Bool) → (a == 60 && (b == 47 && c == 62)) ≡ x → EmptyTags s (after_empty_tags s) → EmptyTags (a ∷ b ∷ c ∷ s) (cond x (three_more (after_empty_tags s)) (nothing_skipped (a ∷ b ∷ c ∷ s)))
     by_test false e k = record { written = []; is = refl; count = refl; low = refl }
     by_test true e k =
         let one = and_parts (a == 60) (b == 47 && c == 62) e in
@@ -93,30 +93,30 @@ here_takes t foreign s token rest names some h = by_test (begins_markup s) refl 
     by_test false e h = piece_takes t false s token rest (piece t false s token rest names some (rw e refl) h)
 
 -- what is read after empty tags
-record HereRead (t : List Entry) (foreign : Bool) (k : Behind) (n : ℕ) (token : Seen) (rest : List ℕ) : Type 0 where
+record HereRead (t : List Entry) (foreign : Bool) (k : Remainder) (n : ℕ) (token : Seen) (rest : List ℕ) : Type 0 where
   some : is_null k.rest ≡ false
   count : k.count ≡ n
   read : read_here t foreign k.rest ≡ taken token rest
 
-here_read : (t : List Entry) (foreign : Bool) (k : Behind) (n : ℕ) (token : Seen) (rest : List ℕ) → next_here t foreign k ≡ behind_bytes n (taken token rest) → HereRead t foreign k n token rest
+here_read : (t : List Entry) (foreign : Bool) (k : Remainder) (n : ℕ) (token : Seen) (rest : List ℕ) → next_here t foreign k ≡ after_bytes n (taken token rest) → HereRead t foreign k n token rest
 here_read t foreign k n token rest h = by_test (is_null k.rest) refl h
   where
-    by_test : (b : Bool) → is_null k.rest ≡ b → cond b next.at_end (behind_bytes k.count (read_here t foreign k.rest)) ≡ behind_bytes n (taken token rest) → HereRead t foreign k n token rest
+    by_test : (b : Bool) → is_null k.rest ≡ b → cond b next.at_end (after_bytes k.count (read_here t foreign k.rest)) ≡ after_bytes n (taken token rest) → HereRead t foreign k n token rest
     by_test true e h = absurd (cc)
     by_test false e h = record { some = e; count = cc; read = cc }
 
 next_sound : (t : List Entry) (mode : Mode) (foreign : Bool) (s : List ℕ) (n : ℕ) (token : Seen) (rest : List ℕ) → SoundNames t → reads_markup mode ≡ true → reads_references mode ≡ true → ((n : List ℕ) → EndsElement mode n)
-    → ((x : List ℕ) → is_null x ≡ false → IsWhole mode x) → (foreign ≡ true → mode ≡ in_svg) → IsPlain s → next_here t foreign (behind_empty_tags s) ≡ behind_bytes n (taken token rest) → SoundToken mode token × IsPlain rest
+    → ((x : List ℕ) → is_null x ≡ false → IsWhole mode x) → (foreign ≡ true → mode ≡ in_svg) → IsPlain s → next_here t foreign (after_empty_tags s) ≡ after_bytes n (taken token rest) → SoundToken mode token × IsPlain rest
 next_sound t mode foreign s n token rest names reads refers free whole svg plain h =
     let k = empty_tags s in
-    let r = here_read t foreign (behind_empty_tags s) n token rest h in
-    let behind = plain_behind_all is_ascii k.written (behind_empty_tags s).rest ascii_low k.low (subst IsPlain k.is plain) in
-    here_sound t mode foreign (behind_empty_tags s).rest token rest names reads refers free whole svg r.some behind r.read
+    let r = here_read t foreign (after_empty_tags s) n token rest h in
+    let after = plain_after_all is_ascii k.written (after_empty_tags s).rest ascii_low k.low (subst IsPlain k.is plain) in
+    here_sound t mode foreign (after_empty_tags s).rest token rest names reads refers free whole svg r.some after r.read
 
-next_takes : (t : List Entry) (foreign : Bool) (s : List ℕ) (n : ℕ) (token : Seen) (rest : List ℕ) → SoundNames t → next_here t foreign (behind_empty_tags s) ≡ behind_bytes n (taken token rest) → TakesBytes s n token rest
+next_takes : (t : List Entry) (foreign : Bool) (s : List ℕ) (n : ℕ) (token : Seen) (rest : List ℕ) → SoundNames t → next_here t foreign (after_empty_tags s) ≡ after_bytes n (taken token rest) → TakesBytes s n token rest
 next_takes t foreign s n token rest names h =
     let k = empty_tags s in
-    let b = behind_empty_tags s in
+    let b = after_empty_tags s in
     let r = here_read t foreign b n token rest h in
     let all : length s ≡ length k.written + length b.rest = ap length k.is ∙ length-append k.written b.rest in
     let takes = here_takes t foreign b.rest token rest names r.some r.read in
@@ -132,7 +132,7 @@ record InsideRead (s : List ℕ) (read : Scanned) (n : ℕ) (token : Seen) (rest
   count : 0 ≡ n
   is : read ≡ taken token rest
 
-inside_read : (s : List ℕ) (read : Scanned) (n : ℕ) (token : Seen) (rest : List ℕ) → unless_end s read ≡ behind_bytes n (taken token rest) → InsideRead s read n token rest
+inside_read : (s : List ℕ) (read : Scanned) (n : ℕ) (token : Seen) (rest : List ℕ) → unless_end s read ≡ after_bytes n (taken token rest) → InsideRead s read n token rest
 inside_read [] read n token rest h = absurd (cc)
 inside_read (c ∷ s) read n token rest h = record { count = cc; is = cc }
 

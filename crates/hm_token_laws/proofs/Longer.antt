@@ -18,7 +18,7 @@ use Rattle.hm_scan.proofs.Follows.{whatever_follows}
 use Rattle.hm_scan.specs.Texts.{opens_markup, begins_markup, read_text}
 use Rattle.hm_tree.specs.Tokens.{Scanned, taken, refused, Extends}
 use Rattle.hm_tree.specs.declared.tokens.ScanFault.TheVariants as faults
-use Rattle.hm_token_laws.specs.First.{ordinary, in_svg, rcdata, raw, script, read_markup, read_here, Behind, three_more, behind_none, behind_empty_tags, next_here, before_rest, read_inside, read_references, read_nothing, unless_end, first}
+use Rattle.hm_token_laws.specs.First.{ordinary, in_svg, rcdata, raw, script, read_markup, read_here, Remainder, three_more, nothing_skipped, after_empty_tags, next_here, before_rest, read_inside, read_references, read_nothing, unless_end, first}
 use Rattle.hm_token_laws.specs.Readings.{NextExtends, NextTokensExtend}
 use Rattle.hm_token_laws.proofs.Bools.{or_parts, both_ways, not_true, turned}
 use Rattle.hm_token_laws.proofs.Elements.{EndsAt, raw_ends_at, script_ends_at}
@@ -55,7 +55,7 @@ before_rest_extends (refused faults.Cut) tail y = tt
 before_rest_extends (refused faults.BadName) tail y = refl
 before_rest_extends (refused faults.TooManyAttributes) tail y = refl
 before_rest_extends (refused faults.BadDoctype) tail y = refl
-before_rest_extends (refused faults.Memory) tail y = refl
+before_rest_extends (refused faults.OutOfMemory) tail y = refl
 
 inside_extends : (t : List Entry) (name s y : List ℕ) (o p : Option ℕ) (more : List ℕ → List ℕ → Scanned) → ((n : ℕ) → o ≡ Some n → (p ≡ Some n) × EndsAt name s n)
     → ((x tail : List ℕ) → Extends y (more x tail) (more x (tail ++ y))) → Extends y (read_inside t s o more) (read_inside t (s ++ y) p more)
@@ -277,27 +277,27 @@ here_extends t foreign s y begins = rw (begins, markup_longer s y begins) (marku
 
 -- ---- `</>` at the start of a longer text
 
-abbrev pub longer_behind : List ℕ → Behind → Behind
-longer_behind y k = record { count = k.count; rest = k.rest ++ y }
+abbrev pub longer_after : List ℕ → Remainder → Remainder
+longer_after y k = record { count = k.count; rest = k.rest ++ y }
 
-pub empty_tags_longer : (s y : List ℕ) → begins_markup (behind_empty_tags s).rest ≡ true → behind_empty_tags (s ++ y) ≡ longer_behind y (behind_empty_tags s)
+pub empty_tags_longer : (s y : List ℕ) → begins_markup (after_empty_tags s).rest ≡ true → after_empty_tags (s ++ y) ≡ longer_after y (after_empty_tags s)
 empty_tags_longer [] y h = absurd (no_nothing h)
 empty_tags_longer (a ∷ []) y h = absurd (no_single a h)
 empty_tags_longer (a ∷ b ∷ []) [] h = refl
 empty_tags_longer (a ∷ b ∷ []) (c ∷ y) h = rw (no_last_slash a b h) (either (a == 60))
   where
-    either : (x : Bool) → cond (x && false) (three_more (behind_empty_tags y)) (behind_none (a ∷ b ∷ c ∷ y)) ≡ behind_none (a ∷ b ∷ c ∷ y)
+    either : (x : Bool) → cond (x && false) (three_more (after_empty_tags y)) (nothing_skipped (a ∷ b ∷ c ∷ y)) ≡ nothing_skipped (a ∷ b ∷ c ∷ y)
     either true = refl
     either false = refl
 empty_tags_longer (a ∷ b ∷ c ∷ s) y h = by_test (a == 60 && (b == 47 && c == 62)) h (empty_tags_longer s y)
   where
-    by_test : (x : Bool) → begins_markup (cond x (three_more (behind_empty_tags s)) (behind_none (a ∷ b ∷ c ∷ s))).rest ≡ true
-        → (begins_markup (behind_empty_tags s).rest ≡ true → behind_empty_tags (s ++ y) ≡ longer_behind y (behind_empty_tags s))
-        → cond x (three_more (behind_empty_tags (s ++ y))) (behind_none (a ∷ b ∷ c ∷ (s ++ y))) ≡ longer_behind y (cond x (three_more (behind_empty_tags s)) (behind_none (a ∷ b ∷ c ∷ s)))
+    by_test : (x : Bool) → begins_markup (cond x (three_more (after_empty_tags s)) (nothing_skipped (a ∷ b ∷ c ∷ s))).rest ≡ true
+        → (begins_markup (after_empty_tags s).rest ≡ true → after_empty_tags (s ++ y) ≡ longer_after y (after_empty_tags s))
+        → cond x (three_more (after_empty_tags (s ++ y))) (nothing_skipped (a ∷ b ∷ c ∷ (s ++ y))) ≡ longer_after y (cond x (three_more (after_empty_tags s)) (nothing_skipped (a ∷ b ∷ c ∷ s)))
     by_test true h more = ap three_more (more h)
     by_test false h more = refl
 
-next_here_extends : (t : List Entry) (foreign : Bool) (k : Behind) (y : List ℕ) → begins_markup k.rest ≡ true → NextExtends y (next_here t foreign k) (next_here t foreign (longer_behind y k))
+next_here_extends : (t : List Entry) (foreign : Bool) (k : Remainder) (y : List ℕ) → begins_markup k.rest ≡ true → NextExtends y (next_here t foreign k) (next_here t foreign (longer_after y k))
 next_here_extends t foreign k y h = rw (some k.rest h, some (k.rest ++ y) (markup_longer k.rest y h)) (read_here t foreign (k.rest ++ y), refl, here_extends t foreign k.rest y h)
   where
     some : (s : List ℕ) → begins_markup s ≡ true → is_null s ≡ false
@@ -308,8 +308,8 @@ next_here_extends t foreign k y h = rw (some k.rest h, some (k.rest ++ y) (marku
 
 pub next_tokens_extend : NextTokensExtend
 unfolding first
-next_tokens_extend t ordinary s y h = rw (empty_tags_longer s y h) (next_here_extends t false (behind_empty_tags s) y h)
-next_tokens_extend t in_svg s y h = rw (empty_tags_longer s y h) (next_here_extends t true (behind_empty_tags s) y h)
+next_tokens_extend t ordinary s y h = rw (empty_tags_longer s y h) (next_here_extends t false (after_empty_tags s) y h)
+next_tokens_extend t in_svg s y h = rw (empty_tags_longer s y h) (next_here_extends t true (after_empty_tags s) y h)
 next_tokens_extend t (rcdata name) s y h =
     unless_end_extends s y (read_inside t s (raw_end name s) (read_references t)) (read_inside t (s ++ y) (raw_end name (s ++ y)) (read_references t))
     (inside_extends t name s y (raw_end name s) (raw_end name (s ++ y)) (read_references t) (λ n e. (raw_longer name s y n e, raw_ends_at name s n e)) (λ x tail. before_rest_extends (read_text t true x) tail y))

@@ -4,7 +4,7 @@ use Rattle.std.specs.Str.{is_utf8}
 use Rattle.std.proofs.lemmas.Bool.{and_parts, or_from, not-true}
 use Rattle.std.proofs.lemmas.List.{take_at, drop_at}
 use Rattle.std.proofs.lemmas.Str.{IsUtf8-append, IsUtf8-take, IsUtf8-drop, IsUtf8-nil, IsUtf8-from_is_utf8, is_utf8-from_IsUtf8, IsCharBoundary-before_ascii, IsCharBoundary-after_ascii}
-use Rattle.hm_base.specs.Bytes.{all_pass, front, behind}
+use Rattle.hm_base.specs.Bytes.{all_pass, front, rest_after}
 use Rattle.hm_base.specs.Forms.{has_byte}
 use Rattle.hm_base.specs.Source.{is_text_byte}
 use Rattle.hm_token_laws.specs.Laws.{IsPlain}
@@ -48,8 +48,8 @@ utf8_from xs ys c low h =
     is_utf8-from_IsUtf8 (c ∷ ys) (rw (drop_at xs (c ∷ ys) (length xs) refl) at (IsUtf8-drop (xs ++ c ∷ ys) (length xs) u at))
 
 -- after an ASCII byte
-pub utf8_behind : (ys : List ℕ) (c : ℕ) → c < 128 → is_utf8 (c ∷ ys) ≡ true → is_utf8 ys ≡ true
-utf8_behind ys c low h =
+pub utf8_after : (ys : List ℕ) (c : ℕ) → c < 128 → is_utf8 (c ∷ ys) ≡ true → is_utf8 ys ≡ true
+utf8_after ys c low h =
     let u = IsUtf8-from_is_utf8 (c ∷ ys) h in
     is_utf8-from_IsUtf8 ys (IsUtf8-drop (c ∷ ys) 1 u (IsCharBoundary-after_ascii (c ∷ ys) 0 u (omega arith) low))
 
@@ -67,56 +67,56 @@ plain_before xs ys c low h = record { bytes = pass_left is_text_byte xs (c ∷ y
 pub plain_from : (xs ys : List ℕ) (c : ℕ) → c < 128 → IsPlain (xs ++ c ∷ ys) → IsPlain (c ∷ ys)
 plain_from xs ys c low h = record { bytes = pass_right is_text_byte xs (c ∷ ys) h.bytes; utf8 = utf8_from xs ys c low h.utf8 }
 
-pub plain_behind : (ys : List ℕ) (c : ℕ) → c < 128 → IsPlain (c ∷ ys) → IsPlain ys
-plain_behind ys c low h = record { bytes = pass_right is_text_byte (c ∷ []) ys h.bytes; utf8 = utf8_behind ys c low h.utf8 }
+pub plain_after : (ys : List ℕ) (c : ℕ) → c < 128 → IsPlain (c ∷ ys) → IsPlain ys
+plain_after ys c low h = record { bytes = pass_right is_text_byte (c ∷ []) ys h.bytes; utf8 = utf8_after ys c low h.utf8 }
 
 -- after ASCII bytes
-pub plain_behind_all : (p : ℕ → Bool) (xs ys : List ℕ) → ((c : ℕ) → p c ≡ true → c < 128) → all_pass p xs ≡ true → IsPlain (xs ++ ys) → IsPlain ys
-plain_behind_all p [] ys low all h = h
-plain_behind_all p (x ∷ xs) ys low all h =
+pub plain_after_all : (p : ℕ → Bool) (xs ys : List ℕ) → ((c : ℕ) → p c ≡ true → c < 128) → all_pass p xs ≡ true → IsPlain (xs ++ ys) → IsPlain ys
+plain_after_all p [] ys low all h = h
+plain_after_all p (x ∷ xs) ys low all h =
     let both = and_parts (p x) (all_pass p xs) all in
-    plain_behind_all p xs ys low both.1 (plain_behind (xs ++ ys) x (low x both.0) h)
+    plain_after_all p xs ys low both.1 (plain_after (xs ++ ys) x (low x both.0) h)
 
 -- ---- prefixes whose bytes pass a test
 
-pub front_and_behind : (p : ℕ → Bool) (s : List ℕ) → s ≡ front p s ++ behind p s
-front_and_behind p [] = refl
-front_and_behind p (c ∷ s) = elim (p c) as (λ b. c ∷ s ≡ cond b (c ∷ front p s) [] ++ cond b (behind p s) (c ∷ s)) [ true ↦ ap (λ r. c ∷ r) (front_and_behind p s) | false ↦ refl ]
+pub front_and_rest : (p : ℕ → Bool) (s : List ℕ) → s ≡ front p s ++ rest_after p s
+front_and_rest p [] = refl
+front_and_rest p (c ∷ s) = elim (p c) as (λ b. c ∷ s ≡ cond b (c ∷ front p s) [] ++ cond b (rest_after p s) (c ∷ s)) [ true ↦ ap (λ r. c ∷ r) (front_and_rest p s) | false ↦ refl ]
 
 pub front_passes : (p : ℕ → Bool) (s : List ℕ) → all_pass p (front p s) ≡ true
 front_passes p [] = refl
 front_passes p (c ∷ s) = elim (p c) as (λ b. p c ≡ b → all_pass p (cond b (c ∷ front p s) []) ≡ true)
     [ true ↦ λ e. rw (e, front_passes p s) refl | false ↦ λ e. refl ] refl
 
-pub behind_fails : (p : ℕ → Bool) (s ds : List ℕ) (d : ℕ) → behind p s ≡ d ∷ ds → p d ≡ false
-behind_fails p [] ds d e = cc
-behind_fails p (c ∷ s) ds d e = by_test (p c) refl e (behind_fails p s ds d)
+pub after_fails : (p : ℕ → Bool) (s ds : List ℕ) (d : ℕ) → rest_after p s ≡ d ∷ ds → p d ≡ false
+after_fails p [] ds d e = cc
+after_fails p (c ∷ s) ds d e = by_test (p c) refl e (after_fails p s ds d)
   where
-    by_test : (b : Bool) → p c ≡ b → cond b (behind p s) (c ∷ s) ≡ d ∷ ds → (behind p s ≡ d ∷ ds → p d ≡ false) → p d ≡ false
+    by_test : (b : Bool) → p c ≡ b → cond b (rest_after p s) (c ∷ s) ≡ d ∷ ds → (rest_after p s ≡ d ∷ ds → p d ≡ false) → p d ≡ false
     by_test true f e more = more e
     by_test false f e more = let same : c ≡ d = cc in subst (λ k. p k ≡ false) same f
 
 -- a prefix that is cut before a byte that fails, where every byte that fails is ASCII
 pub record Parts (p : ℕ → Bool) (s : List ℕ) : Type 0 where
   pub front_plain : IsPlain (front p s)
-  pub behind_plain : IsPlain (behind p s)
+  pub after_plain : IsPlain (rest_after p s)
 
 pub plain_parts : (p : ℕ → Bool) (s : List ℕ) → ((c : ℕ) → p c ≡ false → c < 128) → IsPlain s → Parts p s
-plain_parts p s low h = by_rest (behind p s) refl
+plain_parts p s low h = by_rest (rest_after p s) refl
   where
-    by_rest : (r : List ℕ) → behind p s ≡ r → Parts p s
+    by_rest : (r : List ℕ) → rest_after p s ≡ r → Parts p s
     by_rest [] e =
-        let same : s ≡ front p s = front_and_behind p s ∙ rw e (append-nil (front p s)) in
-        record { front_plain = subst IsPlain same h; behind_plain = rw e plain_nothing }
+        let same : s ≡ front p s = front_and_rest p s ∙ rw e (append-nil (front p s)) in
+        record { front_plain = subst IsPlain same h; after_plain = rw e plain_nothing }
     by_rest (d ∷ ds) e =
-        let same : s ≡ front p s ++ d ∷ ds = front_and_behind p s ∙ ap (λ r. front p s ++ r) e in
+        let same : s ≡ front p s ++ d ∷ ds = front_and_rest p s ∙ ap (λ r. front p s ++ r) e in
         let h' = subst IsPlain same h in
-        let below = low d (behind_fails p s ds d e) in
-        record { front_plain = plain_before (front p s) ds d below h'; behind_plain = rw e (plain_from (front p s) ds d below h') }
+        let below = low d (after_fails p s ds d e) in
+        record { front_plain = plain_before (front p s) ds d below h'; after_plain = rw e (plain_from (front p s) ds d below h') }
 
 -- after a prefix of ASCII bytes
-pub plain_behind_front : (p : ℕ → Bool) (s : List ℕ) → ((c : ℕ) → p c ≡ true → c < 128) → IsPlain s → IsPlain (behind p s)
-plain_behind_front p s low h = plain_behind_all p (front p s) (behind p s) low (front_passes p s) (subst IsPlain (front_and_behind p s) h)
+pub plain_after_front : (p : ℕ → Bool) (s : List ℕ) → ((c : ℕ) → p c ≡ true → c < 128) → IsPlain s → IsPlain (rest_after p s)
+plain_after_front p s low h = plain_after_all p (front p s) (rest_after p s) low (front_passes p s) (subst IsPlain (front_and_rest p s) h)
 
 -- ---- no zero byte and no CR
 

@@ -2,23 +2,23 @@
 use Rattle.std.proofs.Common.{◌≡◌, ℕ, true, List, [], ◌∷◌, ◌++◌, refl, ap, subst, ◌∙◌, append_assoc}
 use Rattle.hm_refs.specs.Names.{Entry}
 use Rattle.hm_tree.specs.Tokens.{Seen, taken}
-use Rattle.hm_token_laws.specs.First.{Mode, ordinary, in_svg, rcdata, raw, script, behind_empty_tags, behind_bytes, first}
+use Rattle.hm_token_laws.specs.First.{Mode, ordinary, in_svg, rcdata, raw, script, after_empty_tags, after_bytes, first}
 use Rattle.hm_token_laws.specs.Readings.{ends_itself, NextExtends, ReadStep, ReadsAs, ReadsWhole, WholeReadingsExtend, ReadingsFollow, ReadPiece, all_bytes, all_steps, EachIsRead, PiecesAreRead, EachIsWhole, WholePiecesAreRead}
 use Rattle.hm_token_laws.proofs.Longer.{next_tokens_extend, markup_longer, empty_tags_longer}
 
 ends_longer : (mode : Mode) (s y : List ℕ) → ends_itself mode s ≡ true → ends_itself mode (s ++ y) ≡ true
-ends_longer ordinary s y h = rw (empty_tags_longer s y h) (markup_longer (behind_empty_tags s).rest y h)
-ends_longer in_svg s y h = rw (empty_tags_longer s y h) (markup_longer (behind_empty_tags s).rest y h)
+ends_longer ordinary s y h = rw (empty_tags_longer s y h) (markup_longer (after_empty_tags s).rest y h)
+ends_longer in_svg s y h = rw (empty_tags_longer s y h) (markup_longer (after_empty_tags s).rest y h)
 ends_longer (rcdata name) s y h = refl
 ends_longer (raw name) s y h = refl
 ends_longer script s y h = refl
 
 -- the same token, with more after it
-token_longer : (t : List Entry) (mode : Mode) (s y : List ℕ) (n : ℕ) (token : Seen) (left : List ℕ) → ends_itself mode s ≡ true → first t mode s ≡ behind_bytes n (taken token left)
-    → first t mode (s ++ y) ≡ behind_bytes n (taken token (left ++ y))
+token_longer : (t : List Entry) (mode : Mode) (s y : List ℕ) (n : ℕ) (token : Seen) (left : List ℕ) → ends_itself mode s ≡ true → first t mode s ≡ after_bytes n (taken token left)
+    → first t mode (s ++ y) ≡ after_bytes n (taken token (left ++ y))
 token_longer t mode s y n token left ends h =
     let k = subst (λ a. NextExtends y a (first t mode (s ++ y))) h (next_tokens_extend t mode s y ends) in
-    k.1 ∙ ap (behind_bytes n) k.2
+    k.1 ∙ ap (after_bytes n) k.2
 
 whole_longer : (t : List Entry) (ks : List ReadStep) (s y rest : List ℕ) → ReadsWhole t ks s rest → ReadsWhole t ks (s ++ y) (rest ++ y)
 whole_longer t [] s y rest h = ap (λ x. x ++ y) h

@@ -6,7 +6,7 @@ use Rattle.std.specs.Str.{is_utf8}
 use Rattle.std.proofs.lemmas.Bool.{and_parts, and_from, or_from, eqb-true}
 use Rattle.std.proofs.lemmas.Str.{IsUtf8-append, IsUtf8-nil, IsUtf8-encode, is_utf8-from_IsUtf8, length-encode, len_utf8_bounds, inside_one}
 use lib.Utf8.{encode}
-use Rattle.hm_base.specs.Bytes.{front, behind, all_pass, is_null, is_digit_of, is_alnum, is_letter}
+use Rattle.hm_base.specs.Bytes.{front, rest_after, all_pass, is_null, is_digit_of, is_alnum, is_letter}
 use Rattle.hm_base.specs.Forms.{has_byte}
 use Rattle.hm_refs.specs.Names.{Entry, Found, longest, is_good, is_tail}
 use Rattle.hm_refs.specs.Numbers.{point_of, look_up, or_number, replaced}
@@ -15,7 +15,7 @@ use Rattle.hm_refs.specs.Tables.{is_point, are_points}
 use Rattle.hm_refs.proofs.Found.{Entered, entry_of, IsLast, found_last}
 use Rattle.hm_refs.proofs.NumberLaws.{up_passes}
 use Rattle.hm_token_laws.specs.Laws.{SoundNames}
-use Rattle.hm_token_laws.proofs.Plain.{front_and_behind, front_passes, pass_both}
+use Rattle.hm_token_laws.proofs.Plain.{front_and_rest, front_passes, pass_both}
 
 unfoldable pub is_ascii : ℕ → Bool
 is_ascii c = nat_lt c 128
@@ -70,9 +70,9 @@ number_is_point n = by_test ((n == 0) || (nat_le 0xD800 n && nat_le n 0xDFFF) ||
 
 -- the bytes in `before` stand before the digits
 number_good : (before : List ℕ) (base : ℕ) (s : List ℕ) (r : Reference) → base ≤ 16 → 2 ≤ length before → all_pass is_ascii before ≡ true
-    → numeric (length before) base (front (is_digit_of base) s) (behind (is_digit_of base) s) ≡ Some r → GoodReference (before ++ s) r
+    → numeric (length before) base (front (is_digit_of base) s) (rest_after (is_digit_of base) s) ≡ Some r → GoodReference (before ++ s) r
 number_good before base s r low some ascii h =
-    by_digits (front (is_digit_of base) s) (behind (is_digit_of base) s) (front_and_behind (is_digit_of base) s) (digits_ascii base (front (is_digit_of base) s) low (front_passes (is_digit_of base) s)) h
+    by_digits (front (is_digit_of base) s) (rest_after (is_digit_of base) s) (front_and_rest (is_digit_of base) s) (digits_ascii base (front (is_digit_of base) s) low (front_passes (is_digit_of base) s)) h
   where
     short : (ds rest : List ℕ) → s ≡ ds ++ rest → all_pass is_ascii ds ≡ true → 1 ≤ length ds → (n : ℕ) → n ≡ length before + length ds → r ≡ record { points = point_of (value_of base ds) ∷ []; len = n }
         → GoodReference (before ++ s) r

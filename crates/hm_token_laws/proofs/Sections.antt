@@ -24,7 +24,7 @@ cdata_cut s k begun h =
     record {
       mark = codes "]]>";
       before = codes "<![CDATA[";
-      is = start ∙ ap (λ y. codes "<![CDATA[" ++ y) (f.is ∙ ap (λ y. k.before ++ y) (front_stripped (codes "]]>") f.tail k.behind f.found));
+      is = start ∙ ap (λ y. codes "<![CDATA[" ++ y) (f.is ∙ ap (λ y. k.before ++ y) (front_stripped (codes "]]>") f.tail k.after f.found));
       some = omega arith;
       mark_low = refl;
       before_low = refl;
@@ -36,7 +36,7 @@ cdata_sound s token rest begun plain h =
     let k = slice_taken (cut_at (codes "]]>") (drop 9 s)) token rest h in
     let parts = cut_plain s k.cut (cdata_cut s k.cut begun k.is) plain in
     let is : IsText in_svg k.cut.before = record { whole = tt; no_zero = no_zero_byte k.cut.before parts.before_plain; no_return = no_return_byte k.cut.before parts.before_plain; utf8 = parts.before_plain.utf8 } in
-    (subst (SoundToken in_svg) k.token_is is, subst IsPlain k.rest_is parts.behind_plain)
+    (subst (SoundToken in_svg) k.token_is is, subst IsPlain k.rest_is parts.after_plain)
 
 pub cdata_takes : (s : List ℕ) (token : Seen) (rest : List ℕ) → begins_cdata s ≡ true → read_cdata s ≡ taken token rest → TakesBytes s 0 token rest
 unfolding read_cdata
@@ -45,5 +45,5 @@ cdata_takes s token rest begun h =
     let c = cdata_cut s k.cut begun k.is in
     let size = (cut_size s k.cut c).whole in
     let some = c.some in
-    let there : TakesBytes s 0 (slice k.cut.before) k.cut.behind = record { count = length c.before + length k.cut.before + length c.mark; whole = omega arith; size = omega arith; least = omega arith } in
+    let there : TakesBytes s 0 (slice k.cut.before) k.cut.after = record { count = length c.before + length k.cut.before + length c.mark; whole = omega arith; size = omega arith; least = omega arith } in
     subst (λ x. TakesBytes s 0 x rest) k.token_is (subst (λ x. TakesBytes s 0 (slice k.cut.before) x) k.rest_is there)

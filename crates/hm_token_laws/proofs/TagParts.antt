@@ -2,12 +2,12 @@
 use Rattle.std.proofs.Common.{◌≡◌, ℕ, zero, suc, ◌+◌, ◌-◌, ◌<◌, ◌≤◌, Bool, true, false, ◌==◌, List, [], ◌∷◌, ◌++◌, length, drop, Option, Some, None, refl, ap, sym, subst, ◌∙◌, arith, append_assoc, length-append, append-nil}
 use Rattle.std.proofs.lemmas.Bool.{cond_both, not-false, eqb-true}
 use Rattle.std.proofs.lemmas.List.{drop_at}
-use Rattle.hm_base.specs.Bytes.{Cut, front, behind, head_is, all_pass, is_space}
+use Rattle.hm_base.specs.Bytes.{Cut, front, rest_after, head_is, all_pass, is_space}
 use Rattle.hm_base.specs.RawText.{is_name_end}
 use Rattle.hm_base.specs.Walks.{Attribute, attributes_size}
-use Rattle.hm_scan.specs.Tags.{is_name_byte, is_later_byte, is_unquoted_byte, is_inside, is_quote, is_tag_end, cut_behind, cut_quoted, cut_value, cut_assigned, Written, attribute_at, CutTag, with_attribute, with_slash, attribute_then, tag_from, cut_tag}
+use Rattle.hm_scan.specs.Tags.{is_name_byte, is_later_byte, is_unquoted_byte, is_inside, is_quote, is_tag_end, cut_after, cut_quoted, cut_value, cut_assigned, Written, attribute_at, CutTag, with_attribute, with_slash, attribute_then, tag_from, cut_tag}
 use Rattle.hm_token_laws.specs.Laws.{IsPlain}
-use Rattle.hm_token_laws.proofs.Plain.{plain_nothing, plain_before, plain_from, plain_behind, plain_parts, plain_behind_front, front_and_behind, front_passes, behind_fails}
+use Rattle.hm_token_laws.proofs.Plain.{plain_nothing, plain_before, plain_from, plain_after, plain_parts, plain_after_front, front_and_rest, front_passes, after_fails}
 
 -- ---- bytes that end a part are ASCII
 
@@ -60,8 +60,8 @@ fits_more xs s size rest f = record {
 pub fits_less : (s : List ℕ) (more less : ℕ) (rest : List ℕ) → less ≤ more → Fits s more rest → Fits s less rest
 fits_less s more less rest h f = record { before = f.before; is = f.is; room = let room = f.room in omega arith }
 
-pub fits_front : (p : ℕ → Bool) (s : List ℕ) → Fits s (length (front p s)) (behind p s)
-fits_front p s = record { before = front p s; is = front_and_behind p s; room = omega arith }
+pub fits_front : (p : ℕ → Bool) (s : List ℕ) → Fits s (length (front p s)) (rest_after p s)
+fits_front p s = record { before = front p s; is = front_and_rest p s; room = omega arith }
 
 pub fits_same : (s t : List ℕ) (size : ℕ) (rest : List ℕ) → s ≡ t → Fits t size rest → Fits s size rest
 fits_same s t size rest e f = record { before = f.before; is = e ∙ f.is; room = f.room }
@@ -73,10 +73,10 @@ drop_suffix s size rest f =
     ap (drop (length s - length rest)) f.is ∙ drop_at f.before rest (length s - length rest) at
 
 abbrev CutFits : List ℕ → Cut → Type 0
-CutFits s k = Fits s (length k.before) k.behind
+CutFits s k = Fits s (length k.before) k.after
 
-quoted_fits : (q : ℕ) (s : List ℕ) → Fits (q ∷ s) (length (front (is_inside q) s)) (drop 1 (behind (is_inside q) s))
-quoted_fits q s = by_rest (behind (is_inside q) s) (front_and_behind (is_inside q) s)
+quoted_fits : (q : ℕ) (s : List ℕ) → Fits (q ∷ s) (length (front (is_inside q) s)) (drop 1 (rest_after (is_inside q) s))
+quoted_fits q s = by_rest (rest_after (is_inside q) s) (front_and_rest (is_inside q) s)
   where
     by_rest : (r : List ℕ) → s ≡ front (is_inside q) s ++ r → Fits (q ∷ s) (length (front (is_inside q) s)) (drop 1 r)
     by_rest [] e = record {
@@ -92,30 +92,30 @@ quoted_fits q s = by_rest (behind (is_inside q) s) (front_and_behind (is_inside 
 
 value_fits : (s : List ℕ) → CutFits s (cut_value s)
 value_fits [] = record { before = []; is = refl; room = omega arith }
-value_fits (c ∷ s) = cond_both (is_quote c) (cut_quoted c s) (cut_behind is_unquoted_byte (c ∷ s)) (CutFits (c ∷ s)) (λ e. quoted_fits c s) (λ e. fits_front is_unquoted_byte (c ∷ s))
+value_fits (c ∷ s) = cond_both (is_quote c) (cut_quoted c s) (cut_after is_unquoted_byte (c ∷ s)) (CutFits (c ∷ s)) (λ e. quoted_fits c s) (λ e. fits_front is_unquoted_byte (c ∷ s))
 
 assigned_fits : (s r : List ℕ) (size : ℕ) → Fits s size r → CutFits s (cut_assigned s r)
 assigned_fits s [] size f = record { before = s; is = sym (append-nil s); room = omega arith }
 assigned_fits s (c ∷ r) size f =
-    cond_both (c == 61) (cut_value (behind is_space r)) (record { before = []; behind = s }) (CutFits s)
-    (λ e. let v = value_fits (behind is_space r) in
-    let k = cut_value (behind is_space r) in
-    fits_same s (f.before ++ c ∷ r) (length k.before) k.behind f.is
-    (fits_less (f.before ++ c ∷ r) _ (length k.before) k.behind (omega arith)
-    (fits_more f.before (c ∷ r) _ k.behind
-    (fits_more (c ∷ []) r _ k.behind
-    (fits_same r (front is_space r ++ behind is_space r) _ k.behind (front_and_behind is_space r)
-    (fits_more (front is_space r) (behind is_space r) (length k.before) k.behind v))))))
+    cond_both (c == 61) (cut_value (rest_after is_space r)) (record { before = []; after = s }) (CutFits s)
+    (λ e. let v = value_fits (rest_after is_space r) in
+    let k = cut_value (rest_after is_space r) in
+    fits_same s (f.before ++ c ∷ r) (length k.before) k.after f.is
+    (fits_less (f.before ++ c ∷ r) _ (length k.before) k.after (omega arith)
+    (fits_more f.before (c ∷ r) _ k.after
+    (fits_more (c ∷ []) r _ k.after
+    (fits_same r (front is_space r ++ rest_after is_space r) _ k.after (front_and_rest is_space r)
+    (fits_more (front is_space r) (rest_after is_space r) (length k.before) k.after v))))))
     (λ e. record { before = []; is = refl; room = omega arith })
 
 pub attribute_fits : (c : ℕ) (s : List ℕ) → Fits (c ∷ s) (length (attribute_at c s).attribute.name + length (attribute_at c s).attribute.value) (attribute_at c s).rest
 unfolding attribute_at
 attribute_fits c s =
-    let r = behind is_later_byte s in
-    let k = cut_assigned r (behind is_space r) in
-    let f : CutFits r k = assigned_fits r (behind is_space r) _ (fits_front is_space r) in
-    fits_same (c ∷ s) ((c ∷ front is_later_byte s) ++ r) _ k.behind (ap (λ x. c ∷ x) (front_and_behind is_later_byte s))
-    (fits_more (c ∷ front is_later_byte s) r (length k.before) k.behind f)
+    let r = rest_after is_later_byte s in
+    let k = cut_assigned r (rest_after is_space r) in
+    let f : CutFits r k = assigned_fits r (rest_after is_space r) _ (fits_front is_space r) in
+    fits_same (c ∷ s) ((c ∷ front is_later_byte s) ++ r) _ k.after (ap (λ x. c ∷ x) (front_and_rest is_later_byte s))
+    (fits_more (c ∷ front is_later_byte s) r (length k.before) k.after f)
 
 -- ---- a whole tag after its name
 
@@ -177,30 +177,30 @@ cut_tag_fits s g e = subst (TagFits s) e (tag_fits 0 s)
 -- ---- the parts of a text are texts
 
 abbrev CutPlain : Cut → Type 0
-CutPlain k = IsPlain k.before × IsPlain k.behind
+CutPlain k = IsPlain k.before × IsPlain k.after
 
-front_cut_plain : (p : ℕ → Bool) (s : List ℕ) → ((c : ℕ) → p c ≡ false → c < 128) → IsPlain s → CutPlain (cut_behind p s)
-front_cut_plain p s low h = let parts = plain_parts p s low h in (parts.front_plain, parts.behind_plain)
+front_cut_plain : (p : ℕ → Bool) (s : List ℕ) → ((c : ℕ) → p c ≡ false → c < 128) → IsPlain s → CutPlain (cut_after p s)
+front_cut_plain p s low h = let parts = plain_parts p s low h in (parts.front_plain, parts.after_plain)
 
 quoted_plain : (q : ℕ) (s : List ℕ) → q < 128 → IsPlain s → CutPlain (cut_quoted q s)
 quoted_plain q s low h =
     let parts = plain_parts (is_inside q) s (λ c e. let same = inside_end q c e in omega arith) h in
-    (parts.front_plain, by_rest (behind (is_inside q) s) (behind_fails (is_inside q) s) parts.behind_plain)
+    (parts.front_plain, by_rest (rest_after (is_inside q) s) (after_fails (is_inside q) s) parts.after_plain)
   where
     by_rest : (r : List ℕ) → ((ds : List ℕ) (d : ℕ) → r ≡ d ∷ ds → is_inside q d ≡ false) → IsPlain r → IsPlain (drop 1 r)
     by_rest [] fails i = i
-    by_rest (d ∷ ds) fails i = let same : d ≡ q = inside_end q d (fails ds d refl) in plain_behind ds d (omega arith) i
+    by_rest (d ∷ ds) fails i = let same : d ≡ q = inside_end q d (fails ds d refl) in plain_after ds d (omega arith) i
 
 value_plain : (s : List ℕ) → IsPlain s → CutPlain (cut_value s)
 value_plain [] h = (h, h)
-value_plain (c ∷ s) h = cond_both (is_quote c) (cut_quoted c s) (cut_behind is_unquoted_byte (c ∷ s)) CutPlain
-    (λ e. quoted_plain c s (quote_low c e) (plain_behind s c (quote_low c e) h))
+value_plain (c ∷ s) h = cond_both (is_quote c) (cut_quoted c s) (cut_after is_unquoted_byte (c ∷ s)) CutPlain
+    (λ e. quoted_plain c s (quote_low c e) (plain_after s c (quote_low c e) h))
     (λ e. front_cut_plain is_unquoted_byte (c ∷ s) unquoted_end_low h)
 
 assigned_plain : (s r : List ℕ) → IsPlain s → IsPlain r → CutPlain (cut_assigned s r)
 assigned_plain s [] h i = (i, i)
-assigned_plain s (c ∷ r) h i = cond_both (c == 61) (cut_value (behind is_space r)) (record { before = []; behind = s }) CutPlain
-    (λ e. value_plain (behind is_space r) (plain_behind_front is_space r space_low (plain_behind r c (equals_low c 61 (omega arith) e) i)))
+assigned_plain s (c ∷ r) h i = cond_both (c == 61) (cut_value (rest_after is_space r)) (record { before = []; after = s }) CutPlain
+    (λ e. value_plain (rest_after is_space r) (plain_after_front is_space r space_low (plain_after r c (equals_low c 61 (omega arith) e) i)))
     (λ e. (plain_nothing, h))
 
 -- an attribute as it is written in a tag
@@ -220,25 +220,25 @@ AllGood [] = Unit {0}
 AllGood (a ∷ attributes) = GoodAttribute a × AllGood attributes
 
 -- a prefix and the byte before it
-plain_named : (c : ℕ) (s : List ℕ) → IsPlain (c ∷ s) → IsPlain (c ∷ front is_later_byte s) × IsPlain (behind is_later_byte s)
-plain_named c s h = by_rest (behind is_later_byte s) refl
+plain_named : (c : ℕ) (s : List ℕ) → IsPlain (c ∷ s) → IsPlain (c ∷ front is_later_byte s) × IsPlain (rest_after is_later_byte s)
+plain_named c s h = by_rest (rest_after is_later_byte s) refl
   where
-    by_rest : (r : List ℕ) → behind is_later_byte s ≡ r → IsPlain (c ∷ front is_later_byte s) × IsPlain (behind is_later_byte s)
+    by_rest : (r : List ℕ) → rest_after is_later_byte s ≡ r → IsPlain (c ∷ front is_later_byte s) × IsPlain (rest_after is_later_byte s)
     by_rest [] e =
-        let same : s ≡ front is_later_byte s = front_and_behind is_later_byte s ∙ rw e (append-nil (front is_later_byte s)) in
+        let same : s ≡ front is_later_byte s = front_and_rest is_later_byte s ∙ rw e (append-nil (front is_later_byte s)) in
         (subst (λ r. IsPlain (c ∷ r)) same h, rw e plain_nothing)
     by_rest (d ∷ ds) e =
-        let same : s ≡ front is_later_byte s ++ d ∷ ds = front_and_behind is_later_byte s ∙ ap (λ r. front is_later_byte s ++ r) e in
+        let same : s ≡ front is_later_byte s ++ d ∷ ds = front_and_rest is_later_byte s ∙ ap (λ r. front is_later_byte s ++ r) e in
         let h' = subst (λ r. IsPlain (c ∷ r)) same h in
-        let low = later_end_low d (behind_fails is_later_byte s ds d e) in
+        let low = later_end_low d (after_fails is_later_byte s ds d e) in
         (plain_before (c ∷ front is_later_byte s) ds d low h', rw e (plain_from (c ∷ front is_later_byte s) ds d low h'))
 
 attribute_plain : (c : ℕ) (s : List ℕ) → is_tag_end c ≡ false → (c == 47) ≡ false → is_space c ≡ false → IsPlain (c ∷ s) → GoodAttribute (attribute_at c s).attribute × IsPlain (attribute_at c s).rest
 unfolding attribute_at
 attribute_plain c s no_end no_slash no_space h =
     let parts = plain_named c s h in
-    let r = behind is_later_byte s in
-    let k = assigned_plain r (behind is_space r) parts.1 (plain_behind_front is_space r space_low parts.1) in
+    let r = rest_after is_later_byte s in
+    let k = assigned_plain r (rest_after is_space r) parts.1 (plain_after_front is_space r space_low parts.1) in
     (record { head = c; more = front is_later_byte s; name_is = refl; no_end = no_end; no_slash = no_slash; no_space = no_space; later = front_passes is_later_byte s; name_plain = parts.0; value_plain = k.0 }, k.1)
 
 abbrev TagPlain : Option CutTag → Type 0
@@ -258,9 +258,9 @@ tag_plain zero [] h = tt
 tag_plain (suc k) [] h = tt
 tag_plain (suc k) (c ∷ s) h = tag_plain k s h
 tag_plain zero (c ∷ s) h =
-    cond_both (is_tag_end c) _ _ TagPlain (λ e. (tt, plain_behind s c (tag_end_low c e) h))
-    (λ no_end. cond_both (c == 47) _ _ TagPlain (λ e. with_slash_plain (head_is is_tag_end s) (tag_from 0 s) (tag_plain 0 s (plain_behind s c (equals_low c 47 (omega arith) e) h)))
-    (λ no_slash. cond_both (is_space c) _ _ TagPlain (λ e. tag_plain 0 s (plain_behind s c (space_low c e) h))
+    cond_both (is_tag_end c) _ _ TagPlain (λ e. (tt, plain_after s c (tag_end_low c e) h))
+    (λ no_end. cond_both (c == 47) _ _ TagPlain (λ e. with_slash_plain (head_is is_tag_end s) (tag_from 0 s) (tag_plain 0 s (plain_after s c (equals_low c 47 (omega arith) e) h)))
+    (λ no_slash. cond_both (is_space c) _ _ TagPlain (λ e. tag_plain 0 s (plain_after s c (space_low c e) h))
     (λ no_space. attributed (attribute_at c s) (name_some c s) (attribute_fits c s) (attribute_plain c s no_end no_slash no_space h) (λ k. tag_plain k s))))
   where
     attributed : (w : Written) → 1 ≤ length w.attribute.name → Fits (c ∷ s) (length w.attribute.name + length w.attribute.value) w.rest → GoodAttribute w.attribute × IsPlain w.rest

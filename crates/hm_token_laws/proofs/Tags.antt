@@ -2,7 +2,7 @@
 use Rattle.std.proofs.Common.{◌≡◌, ℕ, ◌+◌, ◌≤◌, Bool, true, false, cond, not, ◌||◌, ◌==◌, nat_lt, List, [], ◌∷◌, ◌++◌, map, length, Option, Some, None, refl, ap, sym, subst, ◌∙◌, arith, length-append}
 use Rattle.std.proofs.lemmas.Bool.{eqb-true}
 use Rattle.std.proofs.lemmas.List.{length-map}
-use Rattle.hm_base.specs.Bytes.{front, behind, strip_word, head_is, lower}
+use Rattle.hm_base.specs.Bytes.{front, rest_after, strip_word, head_is, lower}
 use Rattle.hm_base.specs.Forms.{is_tag_name}
 use Rattle.hm_base.specs.RawText.{is_name_end, is_found_whole, begins_end_tag}
 use Rattle.hm_base.specs.Walks.{attributes_size}
@@ -17,7 +17,7 @@ use Rattle.hm_scan.proofs.Cases.{tag_name_written}
 use Rattle.hm_scan.proofs.Fronts.{front_all}
 use Rattle.hm_token_laws.specs.First.{Mode}
 use Rattle.hm_token_laws.specs.Laws.{IsPlain, SoundNames, reads_markup, EndsElement, IsStart, IsEndTagOf, SoundToken, TakesBytes}
-use Rattle.hm_token_laws.proofs.Plain.{plain_behind, plain_parts}
+use Rattle.hm_token_laws.proofs.Plain.{plain_after, plain_parts}
 use Rattle.hm_token_laws.proofs.TagParts.{name_end_low, fits_front, cut_tag_fits, cut_tag_plain}
 use Rattle.hm_token_laws.proofs.Attributes.{attributes_allowed, attributes_small}
 
@@ -25,12 +25,12 @@ use Rattle.hm_token_laws.proofs.Attributes.{attributes_allowed, attributes_small
 
 -- the tag whose name stands at the start of r
 pub record Accepted (r : List ℕ) (g : CutTag) : Type 0 where
-  pub cut : cut_tag (behind is_name_byte r) ≡ Some g
+  pub cut : cut_tag (rest_after is_name_byte r) ≡ Some g
   pub named : is_tag_name (tag_name r) ≡ true
   pub good : has_bad_name g.attributes ≡ false
   pub few : length g.attributes ≤ attribute_limit
 
-accepted : (r : List ℕ) (g : CutTag) → cut_tag (behind is_name_byte r) ≡ Some g → tag_fault (tag_name r) g.attributes ≡ None → Accepted r g
+accepted : (r : List ℕ) (g : CutTag) → cut_tag (rest_after is_name_byte r) ≡ Some g → tag_fault (tag_name r) g.attributes ≡ None → Accepted r g
 unfolding tag_fault
 accepted r g cut h = by_tests (is_tag_name (tag_name r)) refl (has_bad_name g.attributes) refl (nat_lt attribute_limit (length g.attributes)) refl h
   where
@@ -68,9 +68,9 @@ no_fault (Some fault) there token left rest h = absurd (cc)
 
 start_read : (t : List Entry) (r : List ℕ) (token : Seen) (rest : List ℕ) → read_start t r ≡ taken token rest → StartRead t r token rest
 unfolding read_start
-start_read t r token rest h = by_cut (cut_tag (behind is_name_byte r)) refl h
+start_read t r token rest h = by_cut (cut_tag (rest_after is_name_byte r)) refl h
   where
-    by_cut : (o : Option CutTag) → cut_tag (behind is_name_byte r) ≡ o → start_of t (tag_name r) o ≡ taken token rest → StartRead t r token rest
+    by_cut : (o : Option CutTag) → cut_tag (rest_after is_name_byte r) ≡ o → start_of t (tag_name r) o ≡ taken token rest → StartRead t r token rest
     by_cut None e h = absurd (cc)
     by_cut (Some g) e h =
         let n = no_fault (tag_fault (tag_name r) g.attributes) (start_tag (tag_name r) (read_attributes t g.attributes) g.slash) token g.rest rest h in
@@ -78,9 +78,9 @@ start_read t r token rest h = by_cut (cut_tag (behind is_name_byte r)) refl h
 
 end_read : (r : List ℕ) (token : Seen) (rest : List ℕ) → read_end r ≡ taken token rest → EndRead r token rest
 unfolding read_end
-end_read r token rest h = by_cut (cut_tag (behind is_name_byte r)) refl h
+end_read r token rest h = by_cut (cut_tag (rest_after is_name_byte r)) refl h
   where
-    by_cut : (o : Option CutTag) → cut_tag (behind is_name_byte r) ≡ o → end_of (tag_name r) o ≡ taken token rest → EndRead r token rest
+    by_cut : (o : Option CutTag) → cut_tag (rest_after is_name_byte r) ≡ o → end_of (tag_name r) o ≡ taken token rest → EndRead r token rest
     by_cut None e h = absurd (cc)
     by_cut (Some g) e h =
         let n = no_fault (tag_fault (tag_name r) g.attributes) (end_tag (tag_name r)) token g.rest rest h in
@@ -91,7 +91,7 @@ end_read r token rest h = by_cut (cut_tag (behind is_name_byte r)) refl h
 pub start_sound : (t : List Entry) (mode : Mode) (r : List ℕ) (token : Seen) (rest : List ℕ) → SoundNames t → reads_markup mode ≡ true → IsPlain r → StartRead t r token rest → SoundToken mode token × IsPlain rest
 start_sound t mode r token rest names reads plain k =
     let parts = plain_parts is_name_byte r name_end_low plain in
-    let cut = cut_tag_plain (behind is_name_byte r) k.tag parts.behind_plain k.accepts.cut in
+    let cut = cut_tag_plain (rest_after is_name_byte r) k.tag parts.after_plain k.accepts.cut in
     let start : IsStart mode (tag_name r) (read_attributes t k.tag.attributes) = record {
       mode_reads = reads;
       name_allowed = k.accepts.named;
@@ -102,7 +102,7 @@ start_sound t mode r token rest names reads plain k =
 pub end_sound : (mode : Mode) (r : List ℕ) (token : Seen) (rest : List ℕ) → EndsElement mode (tag_name r) → IsPlain r → EndRead r token rest → SoundToken mode token × IsPlain rest
 end_sound mode r token rest own plain k =
     let parts = plain_parts is_name_byte r name_end_low plain in
-    let cut = cut_tag_plain (behind is_name_byte r) k.tag parts.behind_plain k.accepts.cut in
+    let cut = cut_tag_plain (rest_after is_name_byte r) k.tag parts.after_plain k.accepts.cut in
     let end : IsEndTagOf mode (tag_name r) = record { name_allowed = k.accepts.named; ends = own } in
     (subst (SoundToken mode) k.token_is end, subst IsPlain k.rest_is cut.1)
 
@@ -122,11 +122,11 @@ record TagBytes (r : List ℕ) (g : CutTag) : Type 0 where
 
 tag_bytes : (r : List ℕ) (g : CutTag) → Accepted r g → TagBytes r g
 tag_bytes r g a =
-    let f = cut_tag_fits (behind is_name_byte r) g a.cut in
+    let f = cut_tag_fits (rest_after is_name_byte r) g a.cut in
     let front_long : length (tag_name r) ≡ length (front is_name_byte r) = length-map (front is_name_byte r) lower in
     let k = fits_front is_name_byte r in
-    let one : length r ≡ length k.before + length (behind is_name_byte r) = ap length k.is ∙ length-append k.before (behind is_name_byte r) in
-    let two : length (behind is_name_byte r) ≡ length f.before + length g.rest = ap length f.is ∙ length-append f.before g.rest in
+    let one : length r ≡ length k.before + length (rest_after is_name_byte r) = ap length k.is ∙ length-append k.before (rest_after is_name_byte r) in
+    let two : length (rest_after is_name_byte r) ≡ length f.before + length g.rest = ap length f.is ∙ length-append f.before g.rest in
     let room = f.room in
     let room_front = k.room in
     record { count = length k.before + length f.before; whole = omega arith; room = omega arith; name_long = name_not_empty (tag_name r) a.named }
@@ -180,9 +180,9 @@ pub tag_sound : (t : List Entry) (mode : Mode) (s : List ℕ) (token : Seen) (re
 tag_sound t mode s token rest names reads free begins plain h = by_beginning (read_tag t s) (beginning t s begins) h
   where
     by_beginning : (x : Scanned) → Beginning t s x → x ≡ taken token rest → SoundToken mode token × IsPlain rest
-    by_beginning x (starts r e is) h = start_sound t mode r token rest names reads (plain_behind r 60 (omega arith) (subst IsPlain e plain)) (start_read t r token rest (sym is ∙ h))
+    by_beginning x (starts r e is) h = start_sound t mode r token rest names reads (plain_after r 60 (omega arith) (subst IsPlain e plain)) (start_read t r token rest (sym is ∙ h))
     by_beginning x (ends r e is) h =
-        end_sound mode r token rest (free (tag_name r)) (plain_behind r 47 (omega arith) (plain_behind (47 ∷ r) 60 (omega arith) (subst IsPlain e plain))) (end_read r token rest (sym is ∙ h))
+        end_sound mode r token rest (free (tag_name r)) (plain_after r 47 (omega arith) (plain_after (47 ∷ r) 60 (omega arith) (subst IsPlain e plain))) (end_read r token rest (sym is ∙ h))
 
 pub tag_takes : (t : List Entry) (s : List ℕ) (token : Seen) (rest : List ℕ) → SoundNames t → begins_tag s ≡ true → read_tag t s ≡ taken token rest → TakesBytes s 0 token rest
 tag_takes t s token rest names begins h = by_beginning (read_tag t s) (beginning t s begins) h
@@ -212,9 +212,9 @@ word_cut (c ∷ w) (d ∷ s) rest h = by_test (c == lower d) refl h (word_cut w 
 
 -- an end tag with this name begins here
 pub record EndTagHere (name s : List ℕ) : Type 0 where
-  pub behind_slash : List ℕ
-  pub is : s ≡ 60 ∷ 47 ∷ behind_slash
-  pub name_is : tag_name behind_slash ≡ name
+  pub after_slash : List ℕ
+  pub is : s ≡ 60 ∷ 47 ∷ after_slash
+  pub name_is : tag_name after_slash ≡ name
 
 name_ends : (rest : List ℕ) → head_is is_name_end rest ≡ true → head_is is_name_byte rest ≡ false
 unfolding is_name_byte
@@ -247,7 +247,7 @@ end_tag_here name (c ∷ d ∷ r) good h = by_tests (60 == lower c) (sym (eqb_lo
     by_tests true e true f h =
         let one : 60 ≡ c = eqb-true 60 c e in
         let two : 47 ≡ d = eqb-true 47 d f in
-        record { behind_slash = r; is = rw (one, two) refl; name_is = named_end name r good h }
+        record { after_slash = r; is = rw (one, two) refl; name_is = named_end name r good h }
 
 reads_end : (t : List Entry) (r : List ℕ) → read_tag t (60 ∷ 47 ∷ r) ≡ read_end r
 unfolding read_tag
@@ -255,12 +255,12 @@ reads_end t r = refl
 
 pub end_tag_sound : (t : List Entry) (mode : Mode) (name s : List ℕ) (token : Seen) (rest : List ℕ) → EndsElement mode name → EndTagHere name s → IsPlain s → read_tag t s ≡ taken token rest → SoundToken mode token × IsPlain rest
 end_tag_sound t mode name s token rest own here plain h =
-    let r = here.behind_slash in
+    let r = here.after_slash in
     let read : read_end r ≡ taken token rest = sym (reads_end t r) ∙ (rw here.is at h) in
-    end_sound mode r token rest (subst (EndsElement mode) (sym here.name_is) own) (plain_behind r 47 (omega arith) (plain_behind (47 ∷ r) 60 (omega arith) (subst IsPlain here.is plain))) (end_read r token rest read)
+    end_sound mode r token rest (subst (EndsElement mode) (sym here.name_is) own) (plain_after r 47 (omega arith) (plain_after (47 ∷ r) 60 (omega arith) (subst IsPlain here.is plain))) (end_read r token rest read)
 
 pub end_tag_takes : (t : List Entry) (name s : List ℕ) (token : Seen) (rest : List ℕ) → EndTagHere name s → read_tag t s ≡ taken token rest → TakesBytes s 0 token rest
 end_tag_takes t name s token rest here h =
-    let r = here.behind_slash in
+    let r = here.after_slash in
     let read : read_end r ≡ taken token rest = sym (reads_end t r) ∙ (rw here.is at h) in
     subst (λ y. TakesBytes y 0 token rest) (sym here.is) (end_takes r token rest (end_read r token rest read))

@@ -10,7 +10,7 @@ use Rattle.hm_refs.specs.Tables.{IsTable}
 use Rattle.hm_scan.specs.TextPlaces.{reference_here}
 use Rattle.hm_scan.specs.Texts.{begins_markup, reference_in, ends_plain, plain_front, read_by, read_text}
 use Rattle.hm_tree.specs.Tokens.{Seen, slice, points, taken}
-use Rattle.hm_token_laws.specs.First.{Mode, ordinary, in_svg, raw, script, behind_bytes, three_more, behind_none, behind_empty_tags, next_here, before_rest, first}
+use Rattle.hm_token_laws.specs.First.{Mode, ordinary, in_svg, raw, script, after_bytes, three_more, nothing_skipped, after_empty_tags, next_here, before_rest, first}
 use Rattle.hm_token_laws.specs.First as modes
 use Rattle.hm_token_laws.specs.Laws.{reads_markup}
 use Rattle.hm_token_laws.specs.Readings.{ReadsAs}
@@ -125,7 +125,7 @@ text_read t k closed (referred b qs ∷ ps) after ended h =
 -- ---- ordinary text
 
 -- `</>` is markup
-no_empty_tags : (s : List ℕ) → begins_markup s ≡ false → behind_empty_tags s ≡ behind_none s
+no_empty_tags : (s : List ℕ) → begins_markup s ≡ false → after_empty_tags s ≡ nothing_skipped s
 unfolding begins_markup
 no_empty_tags [] h = refl
 no_empty_tags (a ∷ []) h = refl
@@ -135,7 +135,7 @@ no_empty_tags (a ∷ b ∷ c ∷ s) h = by_test (a == 60 && (b == 47 && c == 62)
     opens : a ≡ 60 → b ≡ 47 → begins_markup (a ∷ b ∷ c ∷ s) ≡ true
     opens e f = grind (arith, e, f)
 
-    by_test : (x : Bool) → (a == 60 && (b == 47 && c == 62)) ≡ x → cond x (three_more (behind_empty_tags s)) (behind_none (a ∷ b ∷ c ∷ s)) ≡ behind_none (a ∷ b ∷ c ∷ s)
+    by_test : (x : Bool) → (a == 60 && (b == 47 && c == 62)) ≡ x → cond x (three_more (after_empty_tags s)) (nothing_skipped (a ∷ b ∷ c ∷ s)) ≡ nothing_skipped (a ∷ b ∷ c ∷ s)
     by_test false e = refl
     by_test true e =
         let one = and_parts (a == 60) (b == 47 && c == 62) e in
@@ -143,10 +143,10 @@ no_empty_tags (a ∷ b ∷ c ∷ s) h = by_test (a == 60 && (b == 47 && c == 62)
         let there = opens (eqb-true a 60 one.0) (eqb-true b 47 two.0) in
         absurd (cc)
 
-here_first : (t : List Entry) (foreign : Bool) (s : List ℕ) → is_null s ≡ false → begins_markup s ≡ false → next_here t foreign (behind_empty_tags s) ≡ behind_bytes 0 (read_text t false s)
+here_first : (t : List Entry) (foreign : Bool) (s : List ℕ) → is_null s ≡ false → begins_markup s ≡ false → next_here t foreign (after_empty_tags s) ≡ after_bytes 0 (read_text t false s)
 here_first t foreign s some none = rw (no_empty_tags s none, some, none) refl
 
-ordinary_first : (t : List Entry) (mode : Mode) (s : List ℕ) → reads_markup mode ≡ true → TextHere false s → first t mode s ≡ behind_bytes 0 (read_text t false s)
+ordinary_first : (t : List Entry) (mode : Mode) (s : List ℕ) → reads_markup mode ≡ true → TextHere false s → first t mode s ≡ after_bytes 0 (read_text t false s)
 unfolding first
 ordinary_first t ordinary s m h = here_first t false s h.some h.no_markup
 ordinary_first t in_svg s m h = here_first t true s h.some h.no_markup
@@ -157,7 +157,7 @@ ordinary_first t script s m h = absurd (cc)
 ordinary_reads : (t : List Entry) (mode : Mode) → reads_markup mode ≡ true → (ks : List Seen) (s rest : List ℕ) → ReadsText t false ks s rest → ReadsAs t (map (in_mode mode) ks) s rest
 unfolding ReadsText
 ordinary_reads t mode m [] s rest h = h
-ordinary_reads t mode m (k ∷ ks) s rest (left, read, here, more) = (0, left, ordinary_first t mode s m here ∙ ap (behind_bytes 0) read, ordinary_reads t mode m ks left rest more)
+ordinary_reads t mode m (k ∷ ks) s rest (left, read, here, more) = (0, left, ordinary_first t mode s m here ∙ ap (after_bytes 0) read, ordinary_reads t mode m ks left rest more)
 
 ended_front : (t : List Entry) (s : List ℕ) → ends_text t s ≡ true → plain_front t false s ≡ []
 ended_front t [] h = refl
@@ -180,9 +180,9 @@ place_back passes i n (c ∷ s) h = by_test (passes (c ∷ s)) h (place_back pas
     by_test true h more = cc
     by_test false h more = more h
 
-place_behind : (passes : List ℕ → Bool) (x s : List ℕ) (n : ℕ) → place_from passes 0 (x ++ s) ≡ Some (length x + n) → place_from passes 0 s ≡ Some n
-place_behind passes [] s n h = h ∙ ap Some (omega arith)
-place_behind passes (c ∷ x) s n h = place_behind passes x s n (place_back passes 0 (length x + n) (x ++ s) (by_test (passes (c ∷ (x ++ s))) (h ∙ ap Some (omega arith))))
+place_after : (passes : List ℕ → Bool) (x s : List ℕ) (n : ℕ) → place_from passes 0 (x ++ s) ≡ Some (length x + n) → place_from passes 0 s ≡ Some n
+place_after passes [] s n h = h ∙ ap Some (omega arith)
+place_after passes (c ∷ x) s n h = place_after passes x s n (place_back passes 0 (length x + n) (x ++ s) (by_test (passes (c ∷ (x ++ s))) (h ∙ ap Some (omega arith))))
   where
     by_test : (b : Bool) → cond b (Some 0) (place_from passes 1 (x ++ s)) ≡ Some (suc (length x + n)) → place_from passes 1 (x ++ s) ≡ Some (suc (length x + n))
     by_test true h = absurd (cc)
@@ -207,12 +207,12 @@ split_read t k s token left here h = by_piece (piece t true s token left (names_
         record { front = f; is = c.is ∙ ap (λ x. f ++ x) (sym at ∙ rest_is) }
 
 -- a text that isn't empty, up to the end tag
-inside_first : (t : List Entry) (name s after : List ℕ) → is_null s ≡ false → raw_end name (s ++ after) ≡ Some (length s) → first t (modes.rcdata name) (s ++ after) ≡ behind_bytes 0 (before_rest (read_text t true s) after)
+inside_first : (t : List Entry) (name s after : List ℕ) → is_null s ≡ false → raw_end name (s ++ after) ≡ Some (length s) → first t (modes.rcdata name) (s ++ after) ≡ after_bytes 0 (before_rest (read_text t true s) after)
 unfolding first
 inside_first t name [] after some h = absurd (cc)
 inside_first t name (c ∷ s) after some h =
     let cut : (take (length (c ∷ s)) ((c ∷ s) ++ after) ≡ c ∷ s) × (drop (length (c ∷ s)) ((c ∷ s) ++ after) ≡ after) = (take_at (c ∷ s) after (length (c ∷ s)) refl, drop_at (c ∷ s) after (length (c ∷ s)) refl) in
-    rw h (ap₂ (λ x y. behind_bytes 0 (before_rest (read_text t true x) y)) cut.0 cut.1)
+    rw h (ap₂ (λ x y. after_bytes 0 (before_rest (read_text t true x) y)) cut.0 cut.1)
 
 element_reads : (t : List Entry) → IsTable t → (name : List ℕ) (ks : List Seen) (s after : List ℕ) → ReadsText t true ks s [] → raw_end name (s ++ after) ≡ Some (length s)
     → ReadsAs t (map (in_mode (modes.rcdata name)) ks) (s ++ after) after
@@ -221,10 +221,10 @@ element_reads t k name [] s after h found = rw h refl
 element_reads t k name (token ∷ ks) s after (left, read, here, more) found =
     let c = split_read t k s token left here read in
     let nearer : raw_end name (left ++ after) ≡ Some (length left) =
-    place_behind (begins_end_tag name) c.front (left ++ after) (length left)
+    place_after (begins_end_tag name) c.front (left ++ after) (length left)
     (subst (λ x. raw_end name x ≡ Some (length c.front + length left)) (append_assoc c.front left after)
     (subst (λ x. raw_end name (x ++ after) ≡ Some (length c.front + length left)) c.is (found ∙ ap Some (ap length c.is ∙ length-append c.front left)))) in
-    (0, left ++ after, inside_first t name s after here.some found ∙ ap (λ x. behind_bytes 0 (before_rest x after)) read, element_reads t k name ks left after more nearer)
+    (0, left ++ after, inside_first t name s after here.some found ∙ ap (λ x. after_bytes 0 (before_rest x after)) read, element_reads t k name ks left after more nearer)
 
 pub element_texts_are_read : ElementTextsAreRead
 element_texts_are_read t name ps after k h found =

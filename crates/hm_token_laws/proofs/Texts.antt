@@ -9,7 +9,7 @@ use Rattle.hm_scan.specs.Texts.{opens_markup, begins_markup, reference_in, ends_
 use Rattle.hm_tree.specs.Tokens.{Seen, slice, points, taken}
 use Rattle.hm_token_laws.specs.First.{Mode}
 use Rattle.hm_token_laws.specs.Laws.{IsPlain, SoundNames, reads_references, IsWhole, IsText, IsReference, SoundToken, TakesBytes}
-use Rattle.hm_token_laws.proofs.Plain.{plain_nothing, plain_before, plain_from, plain_behind_all, no_zero_byte, no_return_byte}
+use Rattle.hm_token_laws.proofs.Plain.{plain_nothing, plain_before, plain_from, plain_after_all, no_zero_byte, no_return_byte}
 use Rattle.hm_token_laws.proofs.References.{is_ascii, ascii_low, GoodReference, point_bytes}
 use Rattle.hm_token_laws.proofs.TagParts.{equals_low}
 use Rattle.hm_token_laws.proofs.Values.{at_amp}
@@ -57,7 +57,7 @@ plain_cut t rcdata (c ∷ s) = by_test (ends_plain t rcdata c s) refl (plain_cut
 
 pub record TextParts (front s : List ℕ) : Type 0 where
   pub front_plain : IsPlain front
-  pub behind_plain : IsPlain (drop (length front) s)
+  pub after_plain : IsPlain (drop (length front) s)
 
 pub text_parts : (front s : List ℕ) → PlainCut front s → IsPlain s → TextParts front s
 text_parts front s k h = by_tail k.tail k.is k.low
@@ -66,11 +66,11 @@ text_parts front s k h = by_tail k.tail k.is k.low
     by_tail [] e low =
         let same : s ≡ front = e ∙ append-nil front in
         let rest : drop (length front) s ≡ [] = ap (drop (length front)) e ∙ drop_at front [] (length front) refl in
-        record { front_plain = subst IsPlain same h; behind_plain = rw rest plain_nothing }
+        record { front_plain = subst IsPlain same h; after_plain = rw rest plain_nothing }
     by_tail (d ∷ ds) e low =
         let rest : drop (length front) s ≡ d ∷ ds = ap (drop (length front)) e ∙ drop_at front (d ∷ ds) (length front) refl in
         let h' = subst IsPlain e h in
-        record { front_plain = plain_before front ds d (low d ds refl) h'; behind_plain = rw rest (plain_from front ds d (low d ds refl) h') }
+        record { front_plain = plain_before front ds d (low d ds refl) h'; after_plain = rw rest (plain_from front ds d (low d ds refl) h') }
 
 -- ---- the piece that is read
 
@@ -102,13 +102,13 @@ pub piece_sound : (t : List Entry) (mode : Mode) (rcdata : Bool) (s : List ℕ) 
 piece_sound t mode rcdata s token rest reads whole h (referred r good token_is rest_is) =
     let at : drop r.len s ≡ good.rest = ap (drop r.len) good.is ∙ drop_at good.written good.rest r.len (sym good.len) in
     let is : IsReference mode r.points = record { mode_reads = reads; scalars = good.scalars } in
-    let behind = plain_behind_all is_ascii good.written good.rest ascii_low good.low (subst IsPlain good.is h) in
-    (subst (SoundToken mode) token_is is, subst IsPlain (sym at ∙ rest_is) behind)
+    let after = plain_after_all is_ascii good.written good.rest ascii_low good.low (subst IsPlain good.is h) in
+    (subst (SoundToken mode) token_is is, subst IsPlain (sym at ∙ rest_is) after)
 piece_sound t mode rcdata s token rest reads whole h (plain some token_is rest_is) =
     let front = plain_front t rcdata s in
     let parts = text_parts front s (plain_cut t rcdata s) h in
     let is : IsText mode front = record { whole = whole front some; no_zero = no_zero_byte front parts.front_plain; no_return = no_return_byte front parts.front_plain; utf8 = parts.front_plain.utf8 } in
-    (subst (SoundToken mode) token_is is, subst IsPlain rest_is parts.behind_plain)
+    (subst (SoundToken mode) token_is is, subst IsPlain rest_is parts.after_plain)
 
 not_null_long : (x : List ℕ) → is_null x ≡ false → 1 ≤ length x
 not_null_long [] h = absurd (cc)

@@ -11,7 +11,7 @@ use Rattle.hm_refs.specs.References.{Reference, reference}
 use Rattle.hm_scan.specs.Values.{reference_at, read_on, value_from, read_value}
 use Rattle.hm_token_laws.specs.Laws.{SoundNames}
 use Rattle.hm_token_laws.proofs.Bools.{or_parts}
-use Rattle.hm_token_laws.proofs.Plain.{utf8_both, utf8_before, utf8_from, utf8_behind}
+use Rattle.hm_token_laws.proofs.Plain.{utf8_both, utf8_before, utf8_from, utf8_after}
 use Rattle.hm_token_laws.proofs.References.{is_ascii, ascii_low, GoodReference, reference_good, point_bytes, no_byte_both}
 
 ascii_each : (s : List ℕ) → all_pass is_ascii s ≡ true → IsAscii s
@@ -22,11 +22,11 @@ ascii_each (c ∷ s) h (suc i) = ascii_each s (and_parts (is_ascii c) (all_pass 
 pub ascii_utf8 : (s : List ℕ) → all_pass is_ascii s ≡ true → is_utf8 s ≡ true
 ascii_utf8 s h = is_utf8-from_IsUtf8 s (IsUtf8-from_ascii s (ascii_each s h))
 
-pub utf8_behind_ascii : (xs ys : List ℕ) → all_pass is_ascii xs ≡ true → is_utf8 (xs ++ ys) ≡ true → is_utf8 ys ≡ true
-utf8_behind_ascii [] ys a h = h
-utf8_behind_ascii (x ∷ xs) ys a h =
+pub utf8_after_ascii : (xs ys : List ℕ) → all_pass is_ascii xs ≡ true → is_utf8 (xs ++ ys) ≡ true → is_utf8 ys ≡ true
+utf8_after_ascii [] ys a h = h
+utf8_after_ascii (x ∷ xs) ys a h =
     let both = and_parts (is_ascii x) (all_pass is_ascii xs) a in
-    utf8_behind_ascii xs ys both.1 (utf8_behind (xs ++ ys) x (ascii_low x both.0) h)
+    utf8_after_ascii xs ys both.1 (utf8_after (xs ++ ys) x (ascii_low x both.0) h)
 
 -- a reference where '&' stands
 pub record AtAmp (c : ℕ) (s : List ℕ) (r : Reference) : Type 0 where
@@ -43,8 +43,8 @@ at_amp t value c s r names h = by_test (c == 38) refl h
     by_test false e k = absurd (cc)
 
 -- what follows its first byte
-pub behind_reference : (c : ℕ) (s : List ℕ) (r : Reference) (g : GoodReference (c ∷ s) r) → drop (pred r.len) s ≡ g.rest
-behind_reference c s r g = by_written g.written g.is g.len g.long
+pub after_reference : (c : ℕ) (s : List ℕ) (r : Reference) (g : GoodReference (c ∷ s) r) → drop (pred r.len) s ≡ g.rest
+after_reference c s r g = by_written g.written g.is g.len g.long
   where
     by_written : (w : List ℕ) → c ∷ s ≡ w ++ g.rest → r.len ≡ length w → 3 ≤ length w → drop (pred r.len) s ≡ g.rest
     by_written [] e n long = absurd (omega arith)
@@ -71,7 +71,7 @@ value_utf8 t names zero (c ∷ s) p h = by_reference (reference_at t c s) refl (
         let amp = a.amp in
         let front = utf8_before p s c (omega arith) h in
         let whole : is_utf8 (a.good.written ++ a.good.rest) ≡ true = subst (λ x. is_utf8 x ≡ true) a.good.is (utf8_from p s c (omega arith) h) in
-        let rest : is_utf8 (drop (pred r.len) s) ≡ true = rw (behind_reference c s r a.good) (utf8_behind_ascii a.good.written a.good.rest a.good.low whole) in
+        let rest : is_utf8 (drop (pred r.len) s) ≡ true = rw (after_reference c s r a.good) (utf8_after_ascii a.good.written a.good.rest a.good.low whole) in
         utf8_both p _ front (utf8_both (encode_utf8_all r.points) _ (point_bytes r.points a.good.scalars).utf8 (more (pred r.len) [] rest))
 
 value_no_zero : (t : List Entry) → SoundNames t → (k : ℕ) (s : List ℕ) → has_byte 0 s ≡ false → has_byte 0 (value_from t k s) ≡ false
@@ -98,7 +98,7 @@ value_size t names zero (c ∷ s) = by_reference (reference_at t c s) refl (λ k
     by_reference None e more = let rest = more 0 in omega arith
     by_reference (Some r) e more =
         let a = at_amp t true c s r names e in
-        let rest : length (value_from t (pred r.len) s) ≤ 3 * length a.good.rest = subst (λ x. length (value_from t (pred r.len) s) ≤ 3 * length x) (behind_reference c s r a.good) (more (pred r.len)) in
+        let rest : length (value_from t (pred r.len) s) ≤ 3 * length a.good.rest = subst (λ x. length (value_from t (pred r.len) s) ≤ 3 * length x) (after_reference c s r a.good) (more (pred r.len)) in
         let long = a.good.long in
         let whole : length (c ∷ s) ≡ length a.good.written + length a.good.rest = ap length a.good.is ∙ length-append a.good.written a.good.rest in
         let points : length (encode_utf8_all r.points) ≤ 8 = (point_bytes r.points a.good.scalars).short in

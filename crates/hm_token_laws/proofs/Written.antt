@@ -19,7 +19,7 @@ use Rattle.hm_scan.specs.Reading.{read_tag, followed_by_letter, begins_tag}
 use Rattle.hm_scan.proofs.WrittenTags.{starts_read, ends_read}
 use Rattle.hm_scan.specs.Texts.{begins_markup}
 use Rattle.hm_tree.specs.Tokens.{slice, Scanned, taken}
-use Rattle.hm_token_laws.specs.First.{Mode, ordinary, in_svg, rcdata, raw, script, behind_bytes, read_markup, behind_none, behind_empty_tags, next_here, read_inside, read_references, read_nothing, unless_end, first}
+use Rattle.hm_token_laws.specs.First.{Mode, ordinary, in_svg, rcdata, raw, script, after_bytes, read_markup, nothing_skipped, after_empty_tags, next_here, read_inside, read_references, read_nothing, unless_end, first}
 use Rattle.hm_token_laws.specs.Laws.{reads_markup}
 use Rattle.hm_token_laws.specs.Written.{StartsAreNext, EndsAreNext, IsTextOf, TextEndsAreNext, CommentsAreNext, DoctypesAreNext, RawTextsAreNext, ScriptsAreNext}
 use Rattle.hm_token_laws.proofs.Bools.{same_parts}
@@ -35,17 +35,17 @@ reads_cdata mode = false
 -- markup other than `</>`
 record IsMarkup (s : List ℕ) : Type 0 where
   begins : begins_markup s ≡ true
-  no_empty : behind_empty_tags s ≡ behind_none s
+  no_empty : after_empty_tags s ≡ nothing_skipped s
 
 not_null : (s : List ℕ) → begins_markup s ≡ true → is_null s ≡ false
 unfolding begins_markup
 not_null [] h = absurd (cc)
 not_null (c ∷ s) h = refl
 
-here_first : (t : List Entry) (foreign : Bool) (s : List ℕ) → IsMarkup s → next_here t foreign (behind_empty_tags s) ≡ behind_bytes 0 (read_markup t foreign s)
+here_first : (t : List Entry) (foreign : Bool) (s : List ℕ) → IsMarkup s → next_here t foreign (after_empty_tags s) ≡ after_bytes 0 (read_markup t foreign s)
 here_first t foreign s m = rw (m.no_empty, not_null s m.begins, m.begins) refl
 
-markup_first : (t : List Entry) (mode : Mode) (s : List ℕ) → reads_markup mode ≡ true → IsMarkup s → first t mode s ≡ behind_bytes 0 (read_markup t (reads_cdata mode) s)
+markup_first : (t : List Entry) (mode : Mode) (s : List ℕ) → reads_markup mode ≡ true → IsMarkup s → first t mode s ≡ after_bytes 0 (read_markup t (reads_cdata mode) s)
 unfolding first reads_cdata
 markup_first t ordinary s h m = here_first t false s m
 markup_first t in_svg s h m = here_first t true s m
@@ -101,18 +101,18 @@ tag_markup : (s : List ℕ) → TagShape s → IsMarkup s
 tag_markup s (start d r e h) = subst IsMarkup (sym e) (start_markup d r h)
 tag_markup s (end d r e h) = subst IsMarkup (sym e) (end_markup d r h)
 
-tag_first : (t : List Entry) (mode : Mode) (s : List ℕ) → reads_markup mode ≡ true → begins_tag s ≡ true → first t mode s ≡ behind_bytes 0 (read_tag t s)
-tag_first t mode s m h = markup_first t mode s m (tag_markup s (tag_shape s h)) ∙ ap (behind_bytes 0) (rw h refl)
+tag_first : (t : List Entry) (mode : Mode) (s : List ℕ) → reads_markup mode ≡ true → begins_tag s ≡ true → first t mode s ≡ after_bytes 0 (read_tag t s)
+tag_first t mode s m h = markup_first t mode s m (tag_markup s (tag_shape s h)) ∙ ap (after_bytes 0) (rw h refl)
 
 pub starts_are_next : StartsAreNext
 starts_are_next t mode name attributes slash b after m good allowed w =
     let r = starts_read t name attributes slash b after good allowed w in
-    ((tag_markup (b ++ after) (tag_shape (b ++ after) r.0)).begins, tag_first t mode (b ++ after) m r.0 ∙ ap (behind_bytes 0) r.1)
+    ((tag_markup (b ++ after) (tag_shape (b ++ after) r.0)).begins, tag_first t mode (b ++ after) m r.0 ∙ ap (after_bytes 0) r.1)
 
 pub ends_are_next : EndsAreNext
 ends_are_next t mode name b after m good w =
     let r = ends_read t name b after good w in
-    ((tag_markup (b ++ after) (tag_shape (b ++ after) r.0)).begins, tag_first t mode (b ++ after) m r.0 ∙ ap (behind_bytes 0) r.1)
+    ((tag_markup (b ++ after) (tag_shape (b ++ after) r.0)).begins, tag_first t mode (b ++ after) m r.0 ∙ ap (after_bytes 0) r.1)
 
 -- ---- end tags of elements with text
 
@@ -141,7 +141,7 @@ unfolding begins_end_tag
 ends_something name [] h = absurd (cc)
 ends_something name (c ∷ s) h = refl
 
-at_once : (t : List Entry) (s : List ℕ) (o : Option ℕ) (more : List ℕ → List ℕ → Scanned) → is_null s ≡ false → o ≡ Some 0 → unless_end s (read_inside t s o more) ≡ behind_bytes 0 (read_tag t s)
+at_once : (t : List Entry) (s : List ℕ) (o : Option ℕ) (more : List ℕ → List ℕ → Scanned) → is_null s ≡ false → o ≡ Some 0 → unless_end s (read_inside t s o more) ≡ after_bytes 0 (read_tag t s)
 at_once t s o more some e = rw (some, e) refl
 
 script_at_once : (s : List ℕ) → begins_end_tag (codes "script") s ≡ true → script_end s ≡ Some 0
@@ -149,7 +149,7 @@ unfolding begins_end_tag
 script_at_once [] h = absurd (cc)
 script_at_once (c ∷ s) h = rw (mark_of_end (c ∷ s) h) refl
 
-text_end_first : (t : List Entry) (mode : Mode) (name s : List ℕ) → IsTextOf mode name → begins_end_tag name s ≡ true → first t mode s ≡ behind_bytes 0 (read_tag t s)
+text_end_first : (t : List Entry) (mode : Mode) (name s : List ℕ) → IsTextOf mode name → begins_end_tag name s ≡ true → first t mode s ≡ after_bytes 0 (read_tag t s)
 unfolding first
 text_end_first t ordinary name s m h = absurd m
 text_end_first t in_svg name s m h = absurd m
@@ -159,7 +159,7 @@ text_end_first t script name s m h = at_once t s (script_end s) read_nothing (en
 
 pub text_ends_are_next : TextEndsAreNext
 text_ends_are_next t mode name b after m good w =
-    text_end_first t mode name (b ++ after) m (written_end name b after w) ∙ ap (behind_bytes 0) (ends_read t name b after good w).1
+    text_end_first t mode name (b ++ after) m (written_end name b after w) ∙ ap (after_bytes 0) (ends_read t name b after good w).1
 
 -- ---- comments and doctypes
 
@@ -177,7 +177,7 @@ comments_are_next t mode s after m h =
     let k = comment_markup (s ++ (codes "-->" ++ after)) in (
       k.begins,
       markup_first t mode (codes "<!--" ++ (s ++ (codes "-->" ++ after))) m k
-          ∙ ap (behind_bytes 0) (comment_first t (reads_cdata mode) (s ++ (codes "-->" ++ after)) ∙ comment_is_read s after h),
+          ∙ ap (after_bytes 0) (comment_first t (reads_cdata mode) (s ++ (codes "-->" ++ after)) ∙ comment_is_read s after h),
     )
 
 -- the word of a doctype
@@ -234,14 +234,14 @@ doctypes_are_next t mode legacy b after m w =
     let d : Declared (b ++ after) = subst Declared (sym cut) (declared k.word (k.more ++ after) k.lowered) in
     let begins : begins_doctype (b ++ after) ≡ true = subst (λ x. begins_doctype x ≡ true) (sym cut) (doctype_begins k.word (k.more ++ after) k.lowered) in
     let k = subst IsMarkup (sym d.is) (declared_markup d.more) in
-    (k.begins, markup_first t mode (b ++ after) m k ∙ ap (behind_bytes 0) (doctype_first t (reads_cdata mode) (b ++ after) d begins ∙ doctype_is_read legacy b after w))
+    (k.begins, markup_first t mode (b ++ after) m k ∙ ap (after_bytes 0) (doctype_first t (reads_cdata mode) (b ++ after) d begins ∙ doctype_is_read legacy b after w))
 
 -- ---- texts in which nothing is read
 
-before_end : (t : List Entry) (s each : List ℕ) (o : Option ℕ) → is_null s ≡ false → o ≡ Some (length s) → unless_end (s ++ each) (read_inside t (s ++ each) o read_nothing) ≡ behind_bytes 0 (taken (slice s) each)
+before_end : (t : List Entry) (s each : List ℕ) (o : Option ℕ) → is_null s ≡ false → o ≡ Some (length s) → unless_end (s ++ each) (read_inside t (s ++ each) o read_nothing) ≡ after_bytes 0 (taken (slice s) each)
 before_end t [] each o some e = absurd (cc)
 before_end t (c ∷ s) each o some e =
-    rw e (ap₂ (λ x y. behind_bytes 0 (taken (slice x) y)) (take_at (c ∷ s) each (length (c ∷ s)) refl) (drop_at (c ∷ s) each (length (c ∷ s)) refl))
+    rw e (ap₂ (λ x y. after_bytes 0 (taken (slice x) y)) (take_at (c ∷ s) each (length (c ∷ s)) refl) (drop_at (c ∷ s) each (length (c ∷ s)) refl))
 
 pub raw_texts_are_next : RawTextsAreNext
 unfolding first

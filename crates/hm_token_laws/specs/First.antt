@@ -25,7 +25,7 @@ pub data Mode : Type 0 where
 -- the end, or a token or a fault after a number of bytes that stand for nothing
 pub data Next : Type 0 where
   at_end : Next
-  behind_bytes : ℕ → Scanned → Next
+  after_bytes : ℕ → Scanned → Next
 
 -- ---- ordinary text
 
@@ -41,23 +41,23 @@ abbrev pub read_here : List Entry → Bool → List ℕ → Scanned
 read_here t foreign s = if begins_markup s then read_markup t foreign s else read_text t false s
 
 -- what follows `</>`, once or repeated, at the start of a text; and how many bytes are skipped
-pub record Behind : Type 0 where
+pub record Remainder : Type 0 where
   pub count : ℕ
   pub rest : List ℕ
 
-abbrev pub three_more : Behind → Behind
+abbrev pub three_more : Remainder → Remainder
 three_more k = record { count = 3 + k.count; rest = k.rest }
 
-abbrev pub behind_none : List ℕ → Behind
-behind_none s = record { count = 0; rest = s }
+abbrev pub nothing_skipped : List ℕ → Remainder
+nothing_skipped s = record { count = 0; rest = s }
 
 -- `</>` stands for nothing
-abbrev pub behind_empty_tags : List ℕ → Behind
-behind_empty_tags (a ∷ b ∷ c ∷ s) = if a == 60 && (b == 47 && c == 62) then three_more (behind_empty_tags s) else behind_none (a ∷ b ∷ c ∷ s)
-behind_empty_tags s = behind_none s
+abbrev pub after_empty_tags : List ℕ → Remainder
+after_empty_tags (a ∷ b ∷ c ∷ s) = if a == 60 && (b == 47 && c == 62) then three_more (after_empty_tags s) else nothing_skipped (a ∷ b ∷ c ∷ s)
+after_empty_tags s = nothing_skipped s
 
-abbrev pub next_here : List Entry → Bool → Behind → Next
-next_here t foreign k = if is_null k.rest then at_end else behind_bytes k.count (read_here t foreign k.rest)
+abbrev pub next_here : List Entry → Bool → Remainder → Next
+next_here t foreign k = if is_null k.rest then at_end else after_bytes k.count (read_here t foreign k.rest)
 
 -- ---- the text of one element, up to its end tag
 
@@ -79,13 +79,13 @@ abbrev pub read_nothing : List ℕ → List ℕ → Scanned
 read_nothing s rest = taken (slice s) rest
 
 abbrev pub unless_end : List ℕ → Scanned → Next
-unless_end s read = if is_null s then at_end else behind_bytes 0 read
+unless_end s read = if is_null s then at_end else after_bytes 0 read
 
 -- ---- the next token
 
 unfoldable pub first : List Entry → Mode → List ℕ → Next
-first t ordinary s = next_here t false (behind_empty_tags s)
-first t in_svg s = next_here t true (behind_empty_tags s)
+first t ordinary s = next_here t false (after_empty_tags s)
+first t in_svg s = next_here t true (after_empty_tags s)
 first t (rcdata name) s = unless_end s (read_inside t s (raw_end name s) (read_references t))
 first t (raw name) s = unless_end s (read_inside t s (raw_end name s) read_nothing)
 first t script s = unless_end s (read_inside t s (script_end s) read_nothing)
@@ -98,4 +98,4 @@ rule_of faults.Cut = rules.Cut
 rule_of faults.BadName = rules.BadName
 rule_of faults.TooManyAttributes = rules.TooManyAttributes
 rule_of faults.BadDoctype = rules.BadDoctype
-rule_of faults.Memory = rules.Cut
+rule_of faults.OutOfMemory = rules.Cut

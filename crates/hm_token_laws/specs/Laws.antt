@@ -11,7 +11,7 @@ use Rattle.hm_elements.specs.Settled as settled
 use Rattle.hm_refs.specs.Names.{Entry, is_good_name}
 use Rattle.hm_refs.specs.Tables.{IsIn, are_points}
 use Rattle.hm_tree.specs.Tokens.{Seen, doctype, start_tag, end_tag, slice, points, comment, taken}
-use Rattle.hm_token_laws.specs.First.{Mode, ordinary, in_svg, rcdata, raw, script, behind_bytes, first}
+use Rattle.hm_token_laws.specs.First.{Mode, ordinary, in_svg, rcdata, raw, script, after_bytes, first}
 
 -- the bytes of a text: UTF-8, without zero byte and CR
 pub record IsPlain (s : List ℕ) : Type 0 where
@@ -93,7 +93,7 @@ SoundToken mode (comment s) = IsComment mode s
 -- Each token that is read from the text of a page is sound, and what follows it can be read on.
 abbrev pub TokensAreSound : Type 0
 TokensAreSound = (t : List Entry) (mode : Mode) (s : List ℕ) (n : ℕ) (token : Seen) (rest : List ℕ)
-    → SoundNames t → IsMode mode → IsPlain s → first t mode s ≡ behind_bytes n (taken token rest)
+    → SoundNames t → IsMode mode → IsPlain s → first t mode s ≡ after_bytes n (taken token rest)
     → SoundToken mode token × IsPlain rest
 
 -- ---- sizes, in bytes
@@ -136,4 +136,4 @@ pub record TakesBytes (s : List ℕ) (n : ℕ) (token : Seen) (rest : List ℕ) 
 -- those.
 abbrev pub TokensAreSmall : Type 0
 TokensAreSmall = (t : List Entry) (mode : Mode) (s : List ℕ) (n : ℕ) (token : Seen) (rest : List ℕ)
-    → SoundNames t → IsMode mode → first t mode s ≡ behind_bytes n (taken token rest) → TakesBytes s n token rest
+    → SoundNames t → IsMode mode → first t mode s ≡ after_bytes n (taken token rest) → TakesBytes s n token rest

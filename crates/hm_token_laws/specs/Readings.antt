@@ -3,19 +3,19 @@ use Rattle.std.specs.Prelude.{◌≡◌, ℕ, Bool, true, List, [], ◌∷◌, �
 use Rattle.hm_refs.specs.Names.{Entry}
 use Rattle.hm_scan.specs.Texts.{begins_markup}
 use Rattle.hm_tree.specs.Tokens.{Seen, Scanned, taken, Extends}
-use Rattle.hm_token_laws.specs.First.{Mode, ordinary, in_svg, behind_empty_tags, Next, at_end, behind_bytes, first}
+use Rattle.hm_token_laws.specs.First.{Mode, ordinary, in_svg, after_empty_tags, Next, at_end, after_bytes, first}
 
 -- The token that begins here ends by itself: a tag, a comment, a doctype or a CDATA section. So does the text of an element
 -- with raw text or with references alone, up to the end tag. Ordinary text ends where something else begins.
 abbrev pub ends_itself : Mode → List ℕ → Bool
-ends_itself ordinary s = begins_markup (behind_empty_tags s).rest
-ends_itself in_svg s = begins_markup (behind_empty_tags s).rest
+ends_itself ordinary s = begins_markup (after_empty_tags s).rest
+ends_itself in_svg s = begins_markup (after_empty_tags s).rest
 ends_itself mode s = true
 
 -- what is next in a longer text
 abbrev pub NextExtends : List ℕ → Next → Next → Type 0
 NextExtends y at_end b = Unit {0}
-NextExtends y (behind_bytes n read) b = (longer : Scanned) × (b ≡ behind_bytes n longer) × Extends y read longer
+NextExtends y (after_bytes n read) b = (longer : Scanned) × (b ≡ after_bytes n longer) × Extends y read longer
 
 -- A token that ends by itself is the same, whatever follows it; so is a fault, if it isn't that the text ends.
 abbrev pub NextTokensExtend : Type 0
@@ -29,13 +29,13 @@ pub record ReadStep : Type 0 where
 -- these tokens are read one after another, and then rest is left
 abbrev pub ReadsAs : List Entry → List ReadStep → List ℕ → List ℕ → Type 0
 ReadsAs t [] s rest = s ≡ rest
-ReadsAs t (k ∷ ks) s rest = (n : ℕ) × (left : List ℕ) × (first t k.mode s ≡ behind_bytes n (taken k.token left)) × ReadsAs t ks left rest
+ReadsAs t (k ∷ ks) s rest = (n : ℕ) × (left : List ℕ) × (first t k.mode s ≡ after_bytes n (taken k.token left)) × ReadsAs t ks left rest
 
 -- and each of them ends by itself
 abbrev pub ReadsWhole : List Entry → List ReadStep → List ℕ → List ℕ → Type 0
 ReadsWhole t [] s rest = s ≡ rest
 ReadsWhole t (k ∷ ks) s rest =
-    (n : ℕ) × (left : List ℕ) × (first t k.mode s ≡ behind_bytes n (taken k.token left)) × (ends_itself k.mode s ≡ true) × ReadsWhole t ks left rest
+    (n : ℕ) × (left : List ℕ) × (first t k.mode s ≡ after_bytes n (taken k.token left)) × (ends_itself k.mode s ≡ true) × ReadsWhole t ks left rest
 
 -- Tokens that end by themselves are the same, whatever follows them.
 abbrev pub WholeReadingsExtend : Type 0

@@ -10,12 +10,12 @@ use Rattle.hm_markup_spec.specs.Tags.{WritesStart, WritesEnd}
 use Rattle.hm_scan.specs.ReadBack.{WritesValue, IsAttributes}
 use Rattle.hm_scan.specs.Texts.{begins_markup}
 use Rattle.hm_tree.specs.Tokens.{Seen, doctype, start_tag, end_tag, slice, comment, taken}
-use Rattle.hm_token_laws.specs.First.{Mode, rcdata, raw, script, behind_bytes, first}
+use Rattle.hm_token_laws.specs.First.{Mode, rcdata, raw, script, after_bytes, first}
 use Rattle.hm_token_laws.specs.Laws.{reads_markup}
 
 -- the token begins with the first byte, and rest follows it
 abbrev pub IsNext : List Entry → Mode → List ℕ → Seen → List ℕ → Type 0
-IsNext t mode s token rest = first t mode s ≡ behind_bytes 0 (taken token rest)
+IsNext t mode s token rest = first t mode s ≡ after_bytes 0 (taken token rest)
 
 -- and markup begins with it, so that a text ends before it
 abbrev pub IsNextMarkup : List Entry → Mode → List ℕ → Seen → List ℕ → Type 0

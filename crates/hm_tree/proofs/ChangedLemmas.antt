@@ -111,7 +111,7 @@ module _ (s : List ℕ) (old : List AttributePieces) (rows : List EventRow) (don
   plain q legacy was part =
       let new = changed old (set rows next q) q (set_count q) (set_front q) (set_rest q) refl refl refl before.attributes (rw part tt)
       (own_other 0 front rest r q (λ k a. rw part tt) (λ k. rw (part, was) (omega arith)) before.own) (doctype false) (rw part refl)
-      (rw was (record { behind = λ path. refl; ends = λ path w. refl; apart = λ w. refl; begins = λ w. refl })) refl (omega arith) in
+      (rw was (record { after = λ path. refl; ends = λ path w. refl; apart = λ w. refl; begins = λ w. refl })) refl (omega arith) in
       (new.0, new.1 ∙ rw (first_is, was) refl)
 
   -- a start with other attributes
@@ -161,7 +161,7 @@ module _ (s : List ℕ) (old : List AttributePieces) (rows : List EventRow) (don
           let name_same : name_at new r.part ≡ name_at old r.part = was.stays others.0 others.1 old new below in
           let event_is : event_at s new q.part ≡ start n foreign attributes = like.event s new ∙ ap₂ (λ p list. start (bytes_of s p) foreign list) name_same shown in
           let event_was : event_at s old r.part ≡ start n foreign (attributes_in s own) = was.event s old in
-          let alike : IsLike (start n foreign (attributes_in s own)) (start n foreign attributes) = record { behind = λ path. refl; ends = λ path w. refl; apart = λ w. refl; begins = λ w. refl } in
+          let alike : IsLike (start n foreign (attributes_in s own)) (start n foreign attributes) = record { after = λ path. refl; ends = λ path w. refl; apart = λ w. refl; begins = λ w. refl } in
           let no_more : event_size (start n foreign attributes) ≤ event_size (start n foreign (attributes_in s own)) = omega (arith, size) in
           changed new rows_new q rows_count front_new rest_new
           (all_below s old new first count below above 0 front rest r was before.own)

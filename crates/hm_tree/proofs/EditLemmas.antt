@@ -3,7 +3,7 @@ use Rattle.std.proofs.Common.{◌≡◌, ℕ, ◌+◌, ◌≤◌, Bool, true, fa
 use Rattle.std.proofs.lemmas.Bool.{and_parts, and_from}
 use Rattle.std.specs.Str.{is_utf8}
 use Rattle.hm_base.specs.Bytes.{is_null}
-use Rattle.hm_base.specs.Walks.{Event, doctype, start, text, comment, end, Element, begins_text, path_behind, path_after, ends_match, walk_size}
+use Rattle.hm_base.specs.Walks.{Event, doctype, start, text, comment, end, Element, begins_text, path_after_event, path_after, ends_match, walk_size}
 use Rattle.hm_tree.specs.Edits.{last_event}
 use Rattle.hm_tree.specs.Trees.{IsMade, IsTold, IsWalk, is_sound, are_sound, is_apart, are_texts_apart}
 use Rattle.hm_tree.proofs.ApartLemmas.{begins_alike, apart_alike}
@@ -45,7 +45,7 @@ module _ (u : List ℕ) (raw : Bool) (l : List Event) where
 
   path_without : (v : List Event) (path : List Element) → path_after path (v ++ old) ≡ path_after path (v ++ l)
   path_without [] path = refl
-  path_without (e ∷ v) path = path_without v (path_behind path e)
+  path_without (e ∷ v) path = path_without v (path_after_event path e)
 
   one_apart : (e : Event) → is_apart e old ≡ true → is_apart e l ≡ true
   one_apart (doctype legacy) h = refl
@@ -92,7 +92,7 @@ module _ (u : List ℕ) (raw : Bool) (l : List Event) where
 
     path_with : (v : List Event) (path : List Element) → path_after path (v ++ new) ≡ path_after path (v ++ old)
     path_with [] path = refl
-    path_with (e ∷ v) path = path_with v (path_behind path e)
+    path_with (e ∷ v) path = path_with v (path_after_event path e)
 
     begins_with : (v : List Event) → begins_text (v ++ new) ≡ begins_text (v ++ old)
     begins_with [] = refl

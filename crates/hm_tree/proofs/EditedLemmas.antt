@@ -6,10 +6,10 @@ use Rattle.std.proofs.lemmas.Option.{slice_get-get_or}
 use Rattle.std.proofs.lemmas.Str.{is_utf8-from_IsUtf8}
 use Rattle.hm_base.specs.Bytes.{is_null}
 use Rattle.hm_base.specs.Walks.{Event, doctype, text, comment, end}
-use Rattle.hm_tree.specs.Edits.{IsEdited, parent_behind}
+use Rattle.hm_tree.specs.Edits.{IsEdited, parent_after}
 use Rattle.hm_tree.specs.Pieces.{IsPiece, bytes_of}
 use Rattle.hm_tree.specs.Rows.{IsInside, AreInside, IsAfter, own_end, HaveOwn, CanShow, IsTable, event_at, events_of}
-use Rattle.hm_tree.specs.Trees.{innermost, open_after, open_behind, parent_of}
+use Rattle.hm_tree.specs.Trees.{innermost, open_after, open_after_event, parent_of}
 use Rattle.hm_tree.specs.declared.pieces.AttributePieces.{AttributePieces}
 use Rattle.hm_tree.specs.declared.pieces.TextRange.{TextRange}
 use Rattle.hm_tree.specs.declared.rows.RowPart.{RowPart}
@@ -107,7 +107,7 @@ module _ (s : List ℕ) (pieces : List AttributePieces) (front rest : List Event
   abbrev v : List Event
   v = events_of s pieces front
 
-  parent_by : (rows : List EventRow) (part : RowPart) → take (length front) rows ≡ front → parent_behind rows parent part (length front) ≡ innermost (v ++ event_at s pieces part ∷ [])
+  parent_by : (rows : List EventRow) (part : RowPart) → take (length front) rows ≡ front → parent_after rows parent part (length front) ≡ innermost (v ++ event_at s pieces part ∷ [])
   parent_by rows (parts.Doctype legacy) is = edited.above ∙ sym (innermost-push v (doctype legacy))
   parent_by rows (parts.Start foreign len count from first) is = sym (innermost-push v (event_at s pieces (parts.Start foreign len count from first)) ∙ ap Some (length-map front (λ q. event_at s pieces q.part)))
   parent_by rows (parts.LongStart foreign count first) is = sym (innermost-push v (event_at s pieces (parts.LongStart foreign count first)) ∙ ap Some (length-map front (λ q. event_at s pieces q.part)))
@@ -115,11 +115,11 @@ module _ (s : List ℕ) (pieces : List AttributePieces) (front rest : List Event
   parent_by rows (parts.Comment p) is = edited.above ∙ sym (innermost-push v (comment (bytes_of s p)))
   parent_by rows (parts.End foreign name) is = closes parent edited.above ∙ sym (innermost-push v (end (bytes_of s name) foreign))
     where
-      none : (ks : List ℕ) (n : ℕ) → None ≡ slice_get ks 0 → None ≡ slice_get (open_behind ks n (end (bytes_of s name) foreign)) 0
+      none : (ks : List ℕ) (n : ℕ) → None ≡ slice_get ks 0 → None ≡ slice_get (open_after_event ks n (end (bytes_of s name) foreign)) 0
       none [] n h = refl
       none (k ∷ ks) n h = absurd (cc)
 
-      closes : (o : Option ℕ) → o ≡ innermost v → parent_behind rows o (parts.End foreign name) (length front) ≡ slice_get (open_behind (open_after [] 0 v) (length v) (end (bytes_of s name) foreign)) 0
+      closes : (o : Option ℕ) → o ≡ innermost v → parent_after rows o (parts.End foreign name) (length front) ≡ slice_get (open_after_event (open_after [] 0 v) (length v) (end (bytes_of s name) foreign)) 0
       closes None h = none (open_after [] 0 v) (length v) h
       closes (Some k) h =
           let around = innermost-IsInnermost v k h in
@@ -129,7 +129,7 @@ module _ (s : List ℕ) (pieces : List AttributePieces) (front rest : List Event
           let above : q.parent ≡ parent_of v k = row_parent s pieces front v refl k (innermost_within v k h) (front_table s pieces front (r ∷ rest) parent edited) q (get_or-other front k r within) in
           rw (there, around.open_starts) (above ∙ around.parent)
 
-  pub edited_keep : (q : EventRow) (after : Option ℕ) (rows : List EventRow) → q.part ≡ r.part → q.parent ≡ parent → take (length front) rows ≡ front → after ≡ parent_behind rows parent r.part (length front)
+  pub edited_keep : (q : EventRow) (after : Option ℕ) (rows : List EventRow) → q.part ≡ r.part → q.parent ≡ parent → take (length front) rows ≡ front → after ≡ parent_after rows parent r.part (length front)
       → IsEdited s pieces (front ++ q ∷ []) rest after
   edited_keep q after rows part above is next =
       let whole : (front ++ q ∷ []) ++ rest ≡ front ++ q ∷ rest = append_assoc front (q ∷ []) rest in

@@ -5,7 +5,7 @@ use Rattle.std.proofs.lemmas.Option.{slice_get-get_or, slice_get_past}
 use Rattle.std.proofs.lemmas.Str.{IsUtf8-nil}
 use Rattle.hm_base.specs.Bytes.{is_null}
 use Rattle.hm_base.specs.Walks.{Event, text, begins_text, walk_size}
-use Rattle.hm_tree.specs.Edits.{Edited, IsCut, IsEdited, IsEditing, IsShorter, kept, parent_behind, with_first_cut, with_first_text, without_first}
+use Rattle.hm_tree.specs.Edits.{Edited, IsCut, IsEdited, IsEditing, IsShorter, kept, parent_after, with_first_cut, with_first_text, without_first}
 use Rattle.hm_tree.specs.Pieces.{IsPiece, bytes_of}
 use Rattle.hm_tree.specs.Rows.{CanShow, IsInside, IsTable, event_at, events_of}
 use Rattle.hm_tree.specs.Trees.{IsMade, IsWalk, innermost, parent_of}
@@ -96,20 +96,20 @@ module _ (s : List ℕ) (pieces : List AttributePieces) (rows : List EventRow) (
     pub left_first : events_of s pieces (drop next rows) ≡ event_at s pieces r.part ∷ events_of s pieces (drop (next + 1) rows)
     left_first = ap (events_of s pieces) next_first
 
-    pub keeps : (q : EventRow) (after : Option ℕ) → q.part ≡ r.part → q.parent ≡ parent → after ≡ parent_behind rows parent r.part done
+    pub keeps : (q : EventRow) (after : Option ℕ) → q.part ≡ r.part → q.parent ≡ parent → after ≡ parent_after rows parent r.part done
         → Edits s pieces (set rows done q) (done + 1) (next + 1) after (kept (events_of s pieces (take done rows)) (events_of s pieces (drop next rows)))
     keeps q after part above is_after =
         let front = take done rows in
         let new : take (done + 1) (set rows done q) ≡ front ++ q ∷ [] = take_more_set rows done q (omega (arith, h.ordered, there)) in
         let rest : drop (next + 1) (set rows done q) ≡ drop (next + 1) rows = drop-set-lt (next + 1) rows done q (omega (arith, h.ordered)) in
         let again : take (length front) rows ≡ front = ap (λ n. take n rows) front_count in
-        let behind : after ≡ parent_behind rows parent r.part (length front) = is_after ∙ ap (parent_behind rows parent r.part) (sym front_count) in
+        let following : after ≡ parent_after rows parent r.part (length front) = is_after ∙ ap (parent_after rows parent r.part) (sym front_count) in
         let put : events_of s pieces (front ++ q ∷ []) ≡ events_of s pieces front ++ event_at s pieces r.part ∷ [] = events_of-append-rows s pieces front (q ∷ []) ∙ ap (λ x. events_of s pieces front ++ event_at s pieces x ∷ []) part in (
           record {
             ordered = omega (arith, h.ordered);
             within = omega (arith, there, length-set rows done q);
             count = omega (arith, h.count, length-set rows done q);
-            edited = rw (new, rest) (edited_keep s pieces front (drop (next + 1) rows) r parent edited q after rows part above again behind);
+            edited = rw (new, rest) (edited_keep s pieces front (drop (next + 1) rows) r parent edited q after rows part above again following);
           },
           rw (new, rest, put, left_first) refl,
         )
@@ -225,9 +225,9 @@ module _ (s : List ℕ) (pieces : List AttributePieces) (rows : List EventRow) (
 -- ---- Each step
 
 module _ (s : List ℕ) (pieces : List AttributePieces) (rows : List EventRow) (done next : ℕ) (parent : Option ℕ) (h : IsEditing s pieces rows done next parent) (e : Edited) (view : edited_of s pieces rows done next ≡ e) (r : EventRow) (is : r ≡ get_or rows next r) where
-  pub keeps_so : 0 < length e.left → (q : EventRow) (after : Option ℕ) → q.part ≡ r.part → q.parent ≡ parent → after ≡ parent_behind rows parent r.part done
+  pub keeps_so : 0 < length e.left → (q : EventRow) (after : Option ℕ) → q.part ≡ r.part → q.parent ≡ parent → after ≡ parent_after rows parent r.part done
       → Edits s pieces (set rows done q) (done + 1) (next + 1) after (kept e.done e.left)
-  keeps_so some q after part above behind = rw (← view) (keeps s pieces rows done next parent h r is (omega (arith, left_len s pieces rows done next parent h e view, some)) q after part above behind)
+  keeps_so some q after part above following = rw (← view) (keeps s pieces rows done next parent h r is (omega (arith, left_len s pieces rows done next parent h e view, some)) q after part above following)
 
   module _ (p : TextRange) (raw : Bool) (text_is : r.part ≡ parts.Text raw p) where
     there_by : 0 < length e.left → next < length rows

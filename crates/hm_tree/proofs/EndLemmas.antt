@@ -14,7 +14,7 @@ use Rattle.hm_tree.specs.declared.pieces.TextRange.{TextRange}
 use Rattle.hm_tree.specs.declared.rows.RowPart.{RowPart}
 use Rattle.hm_tree.specs.declared.rows.RowPart.TheVariants as parts
 use Rattle.hm_tree.specs.declared.rows.EventRow.{EventRow}
-use Rattle.hm_tree.specs.declared.starts.Own.{Own}
+use Rattle.hm_tree.specs.declared.starts.AttributeRange.{AttributeRange}
 use Rattle.hm_tree.proofs.OpenLemmas.{IsInnermost, innermost-IsInnermost}
 use Rattle.hm_tree.proofs.PartLemmas.{IsStart, is_start}
 use Rattle.hm_tree.proofs.PieceLemmas.{IsUtf8-bytes_of}
@@ -38,7 +38,7 @@ module _ (s : List ℕ) (pieces : List AttributePieces) (rows : List EventRow) (
         sym (part_event s pieces rows w view k within (of_rows table) r is r.part refl) ∙ around.start.at in
         cc
 
-    by_part : (part : RowPart) (n : List ℕ) (foreign : Bool) (attributes : List Attribute) → event_at s pieces part ≡ start n foreign attributes → (own : Own) × (own_of part ≡ Some own)
+    by_part : (part : RowPart) (n : List ℕ) (foreign : Bool) (attributes : List Attribute) → event_at s pieces part ≡ start n foreign attributes → (own : AttributeRange) × (own_of part ≡ Some own)
     by_part (parts.Doctype legacy) n foreign attributes e = absurd (cc)
     by_part (parts.Start flag len count from first) n foreign attributes e = (record { first = first; count = count }, refl)
     by_part (parts.LongStart flag count first) n foreign attributes e = (record { first = first; count = count }, refl)
@@ -46,7 +46,7 @@ module _ (s : List ℕ) (pieces : List AttributePieces) (rows : List EventRow) (
     by_part (parts.Comment p) n foreign attributes e = absurd (cc)
     by_part (parts.End flag name) n foreign attributes e = absurd (cc)
 
-    owns : (own : Own) × (own_of r.part ≡ Some own)
+    owns : (own : AttributeRange) × (own_of r.part ≡ Some own)
     owns = by_part r.part around.element.name around.element.foreign around.start.attributes same_event
 
     -- which is that of a start

@@ -3,7 +3,7 @@ use Rattle.std.proofs.Common.{◌≡◌, ℕ, ◌+◌, ◌^◌, ◌<◌, ◌≤�
 use Rattle.std.proofs.lemmas.Bool.{and_parts, and_from}
 use Rattle.std.specs.Str.{is_utf8}
 use Rattle.hm_base.specs.Bytes.{is_null}
-use Rattle.hm_base.specs.Walks.{Event, doctype, start, text, comment, end, Element, begins_text, path_behind, path_after, ends_match, event_size, walk_size}
+use Rattle.hm_base.specs.Walks.{Event, doctype, start, text, comment, end, Element, begins_text, path_after_event, path_after, ends_match, event_size, walk_size}
 use Rattle.hm_tree.specs.Edits.{is_loose, are_loose}
 use Rattle.hm_tree.specs.Rows.{is_text, ends_in_text}
 use Rattle.hm_tree.specs.Trees.{IsMade, IsTold, is_sound, are_sound, is_apart, are_texts_apart}
@@ -13,7 +13,7 @@ use Rattle.hm_tree.proofs.MovedLemmas.{ends_more}
 
 -- An event opens, closes and keeps apart what another one does.
 pub record IsLike (old new : Event) : Type 0 where
-  pub behind : (path : List Element) → path_behind path new ≡ path_behind path old
+  pub after : (path : List Element) → path_after_event path new ≡ path_after_event path old
   pub ends : (path : List Element) (w : List Event) → ends_match path (new ∷ w) ≡ ends_match path (old ∷ w)
   pub apart : (w : List Event) → is_apart new w ≡ is_apart old w
   pub begins : (w : List Event) → begins_text (new ∷ w) ≡ begins_text (old ∷ w)
@@ -24,8 +24,8 @@ module _ (old new : Event) (like : IsLike old new) (l : List Event) where
   ends_like (e ∷ v) path = ends_more path e (v ++ new ∷ l) (v ++ old ∷ l) (λ p. ends_like v p)
 
   path_like : (v : List Event) (path : List Element) → path_after path (v ++ new ∷ l) ≡ path_after path (v ++ old ∷ l)
-  path_like [] path = ap (λ p. path_after p l) (like.behind path)
-  path_like (e ∷ v) path = path_like v (path_behind path e)
+  path_like [] path = ap (λ p. path_after p l) (like.after path)
+  path_like (e ∷ v) path = path_like v (path_after_event path e)
 
   begins_like : (v : List Event) → begins_text (v ++ new ∷ l) ≡ begins_text (v ++ old ∷ l)
   begins_like [] = like.begins l
@@ -63,7 +63,7 @@ module _ (u : List ℕ) (l : List Event) where
 
   path_uncommented : (v : List Event) (path : List Element) → path_after path (v ++ with_comment) ≡ path_after path (v ++ l)
   path_uncommented [] path = refl
-  path_uncommented (e ∷ v) path = path_uncommented v (path_behind path e)
+  path_uncommented (e ∷ v) path = path_uncommented v (path_after_event path e)
 
   other_apart : (e : Event) (w : List Event) → is_text e ≡ false → is_apart e w ≡ true
   other_apart (doctype legacy) w h = refl
@@ -115,9 +115,9 @@ path_loose (text s raw ∷ mid) l path h = path_loose mid l path h
 path_loose (comment s ∷ mid) l path h = path_loose mid l path h
 path_loose (end n foreign ∷ mid) l path h = absurd (cc)
 
-apart_behind : (mid l : List Event) → are_texts_apart (mid ++ l) ≡ true → are_texts_apart l ≡ true
-apart_behind [] l h = h
-apart_behind (e ∷ mid) l h = apart_behind mid l (and_parts (is_apart e (mid ++ l)) (are_texts_apart (mid ++ l)) h).1
+apart_after : (mid l : List Event) → are_texts_apart (mid ++ l) ≡ true → are_texts_apart l ≡ true
+apart_after [] l h = h
+apart_after (e ∷ mid) l h = apart_after mid l (and_parts (is_apart e (mid ++ l)) (are_texts_apart (mid ++ l)) h).1
 
 module _ (u : List ℕ) (raw : Bool) (mid l : List Event) (loose : are_loose mid ≡ true) (apart : begins_text l ≡ false) (t : List ℕ) (some : is_null t ≡ false) where
   abbrev apart_texts : List Event
@@ -132,7 +132,7 @@ module _ (u : List ℕ) (raw : Bool) (mid l : List Event) (loose : are_loose mid
 
   path_joined : (v : List Event) (path : List Element) → path_after path (v ++ joined) ≡ path_after path (v ++ apart_texts)
   path_joined [] path = sym (path_loose mid l path loose)
-  path_joined (e ∷ v) path = path_joined v (path_behind path e)
+  path_joined (e ∷ v) path = path_joined v (path_after_event path e)
 
   begins_joined : (v : List Event) → begins_text (v ++ joined) ≡ begins_text (v ++ apart_texts)
   begins_joined [] = refl
@@ -140,7 +140,7 @@ module _ (u : List ℕ) (raw : Bool) (mid l : List Event) (loose : are_loose mid
 
   apart_joined : (v : List Event) → are_texts_apart (v ++ apart_texts) ≡ true → are_texts_apart (v ++ joined) ≡ true
   apart_joined [] h =
-      let rest = apart_behind mid l (and_parts (is_apart (text u raw) (mid ++ l)) (are_texts_apart (mid ++ l)) h).1 in
+      let rest = apart_after mid l (and_parts (is_apart (text u raw) (mid ++ l)) (are_texts_apart (mid ++ l)) h).1 in
       rw (some, apart, rest) refl
   apart_joined (e ∷ v) h =
       let parts = and_parts (is_apart e (v ++ apart_texts)) (are_texts_apart (v ++ apart_texts)) h in

@@ -2,14 +2,14 @@
 use Rattle.std.proofs.Common.{◌≡◌, ℕ, ◌+◌, ◌-◌, Bool, true, false, List, [], ◌∷◌, ◌++◌, length, slice_get, Option, Some, sym, ap, subst, ◌∙◌, refl, arith, length-append}
 use Rattle.std.specs.Cmp.Lexicographic.{nat_list_eq_equiv}
 use Rattle.hm_base.specs.Walks.{Event, doctype, start, text, comment, end, Attribute, Element, same_flag, path_after, ends_match, with_text}
-use Rattle.hm_tree.specs.Trees.{HasRoom, IsMaking, innermost, open_behind, open_after, parent_of, end_of}
+use Rattle.hm_tree.specs.Trees.{HasRoom, IsMaking, innermost, open_after_event, open_after, parent_of, end_of}
 use Rattle.hm_tree.specs.Rows.{ends_in_text, extended}
 use Rattle.hm_tree.proofs.ApartLemmas.{are_texts_apart-other, are_texts_apart-text, are_texts_apart-extended}
 use Rattle.hm_tree.proofs.OpenLemmas.{IsInnermost, innermost-IsInnermost}
 use Rattle.hm_tree.proofs.TextLemmas.{with_text-extended, with_text-push, path_after-extended, open_after-extended, ends_match-extended}
 use Rattle.hm_tree.proofs.WalkLemmas.{path_after-push, open_after-push, ends_match-push, walk_size-push}
 
-pub innermost-push : (w : List Event) (e : Event) → innermost (w ++ e ∷ []) ≡ slice_get (open_behind (open_after [] 0 w) (length w) e) 0
+pub innermost-push : (w : List Event) (e : Event) → innermost (w ++ e ∷ []) ≡ slice_get (open_after_event (open_after [] 0 w) (length w) e) 0
 innermost-push w e = ap (λ ks. slice_get ks 0) (open_after-push [] 0 w e (length w) (omega arith))
 
 module _ (w : List Event) (parent : Option ℕ) (depth : ℕ) (making : IsMaking w parent depth) where

@@ -5,11 +5,11 @@ use Rattle.std.proofs.lemmas.List.{map-append}
 use Rattle.std.proofs.lemmas.List.Elements.{All-cons, All-head, All-push, All-tail}
 use Rattle.std.specs.List.{remove}
 use Rattle.std.specs.Str.{is_utf8}
-use Rattle.hm_base.specs.Walks.{Attribute, Event, doctype, start, text, comment, end, Element, is_same_element, path_behind, path_after, ends_match, begins_text, has_name, has_distinct_names, attributes_size, event_size, walk_size}
+use Rattle.hm_base.specs.Walks.{Attribute, Event, doctype, start, text, comment, end, Element, is_same_element, path_after_event, path_after, ends_match, begins_text, has_name, has_distinct_names, attributes_size, event_size, walk_size}
 use Rattle.hm_tree.specs.Attributes.{are_texts}
 use Rattle.hm_tree.specs.Moved.{moved, with_moved, put_last}
 use Rattle.hm_tree.specs.Rows.{parents_from}
-use Rattle.hm_tree.specs.Trees.{IsMade, IsTold, is_apart, is_sound, are_sound, are_texts_apart, open_behind}
+use Rattle.hm_tree.specs.Trees.{IsMade, IsTold, is_apart, is_sound, are_sound, are_texts_apart, open_after_event}
 use Rattle.hm_tree.proofs.ApartLemmas.{apart_alike, begins_alike}
 use Rattle.hm_tree.proofs.AttributeLemmas.{has_distinct_names-push}
 use Rattle.hm_tree.proofs.NameLemmas.{has_name-push}
@@ -106,19 +106,19 @@ size_moved at (text s raw) = refl
 size_moved at (comment s) = refl
 size_moved at (end n foreign) = refl
 
-open_moved : (ks : List ℕ) (k at : ℕ) (e : Event) → open_behind ks k (with_moved at e) ≡ open_behind ks k e
+open_moved : (ks : List ℕ) (k at : ℕ) (e : Event) → open_after_event ks k (with_moved at e) ≡ open_after_event ks k e
 open_moved ks k at (doctype legacy) = refl
 open_moved ks k at (start n foreign attributes) = refl
 open_moved ks k at (text s raw) = refl
 open_moved ks k at (comment s) = refl
 open_moved ks k at (end n foreign) = refl
 
-behind_moved : (path : List Element) (at : ℕ) (e : Event) → path_behind path (with_moved at e) ≡ path_behind path e
-behind_moved path at (doctype legacy) = refl
-behind_moved path at (start n foreign attributes) = refl
-behind_moved path at (text s raw) = refl
-behind_moved path at (comment s) = refl
-behind_moved path at (end n foreign) = refl
+after_moved : (path : List Element) (at : ℕ) (e : Event) → path_after_event path (with_moved at e) ≡ path_after_event path e
+after_moved path at (doctype legacy) = refl
+after_moved path at (start n foreign attributes) = refl
+after_moved path at (text s raw) = refl
+after_moved path at (comment s) = refl
+after_moved path at (end n foreign) = refl
 
 ends_moved : (path : List Element) (at : ℕ) (e : Event) (w : List Event) → ends_match path (with_moved at e ∷ w) ≡ ends_match path (e ∷ w)
 ends_moved path at (doctype legacy) w = refl
@@ -161,12 +161,12 @@ are_sound-put_last (e ∷ w) (suc i) at h = let parts = and_parts (is_sound e) (
 pub parents_from-put_last : (ks : List ℕ) (k : ℕ) (w : List Event) (i at : ℕ) → parents_from ks k (put_last w i at) ≡ parents_from ks k w
 parents_from-put_last ks k [] i at = refl
 parents_from-put_last ks k (e ∷ w) zero at = ap (λ os. slice_get ks 0 ∷ parents_from os (k + 1) w) (open_moved ks k at e)
-parents_from-put_last ks k (e ∷ w) (suc i) at = ap (λ rest. slice_get ks 0 ∷ rest) (parents_from-put_last (open_behind ks k e) (k + 1) w i at)
+parents_from-put_last ks k (e ∷ w) (suc i) at = ap (λ rest. slice_get ks 0 ∷ rest) (parents_from-put_last (open_after_event ks k e) (k + 1) w i at)
 
 path_after-put_last : (path : List Element) (w : List Event) (i at : ℕ) → path_after path (put_last w i at) ≡ path_after path w
 path_after-put_last path [] i at = refl
-path_after-put_last path (e ∷ w) zero at = ap (λ p. path_after p w) (behind_moved path at e)
-path_after-put_last path (e ∷ w) (suc i) at = path_after-put_last (path_behind path e) w i at
+path_after-put_last path (e ∷ w) zero at = ap (λ p. path_after p w) (after_moved path at e)
+path_after-put_last path (e ∷ w) (suc i) at = path_after-put_last (path_after_event path e) w i at
 
 pub ends_more : (path : List Element) (e : Event) (v w : List Event) → ((p : List Element) → ends_match p v ≡ ends_match p w) → ends_match path (e ∷ v) ≡ ends_match path (e ∷ w)
 ends_more path (doctype legacy) v w same = same path

@@ -3,8 +3,8 @@
 use Rattle.std.proofs.Common.{◌≡◌, ℕ, ◌<◌, ◌≤◌, List, [], ◌∷◌, ◌++◌, length, take, drop, slice_get, Option, Some, None, IsSome, MatchOption, ap, subst, ◌∙◌, refl, arith, append_assoc, length-take}
 use Rattle.std.proofs.lemmas.List.{take-append-le, take-append-drop, take_at, append-nil}
 use Rattle.std.proofs.lemmas.Option.{slice_get_within}
-use Rattle.hm_base.specs.Walks.{Event, doctype, start, text, comment, end, Attribute, Element, path_behind, path_after}
-use Rattle.hm_tree.specs.Trees.{IsStartAt, open_behind, open_after, innermost, parent_of}
+use Rattle.hm_base.specs.Walks.{Event, doctype, start, text, comment, end, Attribute, Element, path_after_event, path_after}
+use Rattle.hm_tree.specs.Trees.{IsStartAt, open_after_event, open_after, innermost, parent_of}
 use Rattle.hm_tree.proofs.ListLemmas.{slice_get-append, slice_get_at}
 use Rattle.hm_tree.proofs.WalkLemmas.{path_after-push, open_after-push}
 
@@ -30,7 +30,7 @@ AreOpen-append w v (k ∷ ks) (e ∷ path) (s, before, rest) =
     let within : k < length w = slice_get_within w k _ s.at in
     (start_stays w v k e s, ap (open_after [] 0) (take-append-le k w v (omega arith)) ∙ before, AreOpen-append w v ks path rest)
 
-step : (w : List Event) (e : Event) (ks : List ℕ) (path : List Element) → open_after [] 0 w ≡ ks → AreOpen w ks path → AreOpen (w ++ e ∷ []) (open_behind ks (length w) e) (path_behind path e)
+step : (w : List Event) (e : Event) (ks : List ℕ) (path : List Element) → open_after [] 0 w ≡ ks → AreOpen w ks path → AreOpen (w ++ e ∷ []) (open_after_event ks (length w) e) (path_after_event path e)
 step w (doctype legacy) ks path is h = AreOpen-append w (doctype legacy ∷ []) ks path h
 step w (text s raw) ks path is h = AreOpen-append w (text s raw ∷ []) ks path h
 step w (comment s) ks path is h = AreOpen-append w (comment s ∷ []) ks path h

@@ -92,19 +92,19 @@ module _ (s : List ℕ) (pairs : List Pair) (inside : All (HasPair s) pairs) (a 
 
 -- ---- the text appended to another
 
-boundary_behind : (s u : List ℕ) (i : ℕ) → IsCharBoundary u i → IsCharBoundary (s ++ u) (length s + i)
-boundary_behind s u i b = (omega (arith, b.0, length-append s u), λ h. rw (get_or-append-add s u i 0) (b.1 (omega (arith, h, length-append s u))))
+boundary_after : (s u : List ℕ) (i : ℕ) → IsCharBoundary u i → IsCharBoundary (s ++ u) (length s + i)
+boundary_after s u i b = (omega (arith, b.0, length-append s u), λ h. rw (get_or-append-add s u i 0) (b.1 (omega (arith, h, length-append s u))))
 
 module _ (s u : List ℕ) (p q : TextRange) (from : q.from ≡ length s + p.from) (to : q.to ≡ length s + p.to) where
-  IsPiece-behind : IsPiece u p → IsPiece (s ++ u) q
-  IsPiece-behind h = record {
+  IsPiece-after : IsPiece u p → IsPiece (s ++ u) q
+  IsPiece-after h = record {
     ordered = omega (arith, h.ordered, from, to);
-    from_boundary = rw from (boundary_behind s u p.from h.from_boundary);
-    to_boundary = rw to (boundary_behind s u p.to h.to_boundary);
+    from_boundary = rw from (boundary_after s u p.from h.from_boundary);
+    to_boundary = rw to (boundary_after s u p.to h.to_boundary);
   }
 
-  bytes_of-behind : bytes_of (s ++ u) q ≡ bytes_of u p
-  bytes_of-behind = rw (from, to, drop-append-add s u p.from, less) refl
+  bytes_of-after : bytes_of (s ++ u) q ≡ bytes_of u p
+  bytes_of-after = rw (from, to, drop-append-add s u p.from, less) refl
     where
       less : (length s + p.to) - (length s + p.from) ≡ p.to - p.from
       less = omega arith
@@ -121,9 +121,9 @@ pub AreShifted-more : (s u : List ℕ) (pairs : List Pair) (pieces : List Attrib
     → AreShifted s u (pairs ++ p ∷ []) (pieces ++ q ∷ [])
 AreShifted-more s u pairs pieces p q h own at =
     let one : attribute_in (s ++ u) q ≡ attribute_in u (pieces_of p) =
-    rw (bytes_of-behind s u (name_of (pieces_of p)) (name_of q) at.from at.middle, bytes_of-behind s u (value_of (pieces_of p)) (value_of q) at.middle at.to) refl in
+    rw (bytes_of-after s u (name_of (pieces_of p)) (name_of q) at.from at.middle, bytes_of-after s u (value_of (pieces_of p)) (value_of q) at.middle at.to) refl in
     record {
-      inside = All-push (HasPieces (s ++ u)) pieces q h.inside (IsPiece-behind s u (name_of (pieces_of p)) (name_of q) at.from at.middle own.0, IsPiece-behind s u (value_of (pieces_of p)) (value_of q) at.middle at.to own.1);
+      inside = All-push (HasPieces (s ++ u)) pieces q h.inside (IsPiece-after s u (name_of (pieces_of p)) (name_of q) at.from at.middle own.0, IsPiece-after s u (value_of (pieces_of p)) (value_of q) at.middle at.to own.1);
       shown = map-append (attribute_in (s ++ u)) pieces (q ∷ []) ∙ rw (h.shown, one) (sym (ap (attributes_in u) (map-append pieces_of pairs (p ∷ [])) ∙ map-append (attribute_in u) (map pieces_of pairs) (pieces_of p ∷ [])));
     }
 
@@ -141,11 +141,11 @@ pub AreAppended-more : (s u : List ℕ) (before pieces : List AttributePieces) (
     → IsShifted (length s) (get_or pairs i no_pair) q → AreAppended s u before (pieces ++ q ∷ []) pairs (i + 1)
 AreAppended-more s u before pieces pairs i q h within inside at =
     let p = get_or pairs i no_pair in
-    let behind : drop (length before) (pieces ++ q ∷ []) ≡ drop (length before) pieces ++ q ∷ [] =
+    let after : drop (length before) (pieces ++ q ∷ []) ≡ drop (length before) pieces ++ q ∷ [] =
     drop-append-le (length before) pieces (q ∷ []) (omega (arith, ap length h.kept, length-append before (drop (length before) pieces))) in
     record {
-      kept = rw (behind, ← append_assoc, h.kept) refl;
-      shifted = rw (behind, take_more pairs i no_pair within) (AreShifted-more s u (take i pairs) (drop (length before) pieces) p q h.shifted (inside i no_pair within) at);
+      kept = rw (after, ← append_assoc, h.kept) refl;
+      shifted = rw (after, take_more pairs i no_pair within) (AreShifted-more s u (take i pairs) (drop (length before) pieces) p q h.shifted (inside i no_pair within) at);
     }
 
 pub AreAppended-all : (s u t : List ℕ) (before pieces : List AttributePieces) (pairs : List Pair) (i : ℕ) (attributes : List Attribute) → AreAppended s u before pieces pairs i → length pairs ≤ i

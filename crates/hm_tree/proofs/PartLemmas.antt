@@ -8,7 +8,7 @@ use Rattle.hm_tree.specs.Starts.{HasName, end_part, fewer, flag_of, name_at, nam
 use Rattle.hm_tree.specs.declared.pieces.AttributePieces.{AttributePieces}
 use Rattle.hm_tree.specs.declared.rows.RowPart.{RowPart}
 use Rattle.hm_tree.specs.declared.rows.RowPart.TheVariants as parts
-use Rattle.hm_tree.specs.declared.starts.Own.{Own}
+use Rattle.hm_tree.specs.declared.starts.AttributeRange.{AttributeRange}
 
 -- rows whose attributes are none of the first n begin no earlier
 pub grows : (n : ℕ) (part : RowPart) → IsAfter n part → n ≤ own_end n part
@@ -73,13 +73,13 @@ pub record IsStart (part : RowPart) (first count : ℕ) : Type 0 where
   pub has_name : (s : List ℕ) (pieces : List AttributePieces) → length s < 2 ^ 32 → IsInside s (length pieces) part → HasName pieces part
   pub end_is : (pieces : List AttributePieces) → end_part pieces part ≡ parts.End (flag_of part) (name_at pieces part)
 
-same_own : (a b : Own) → Some a ≡ Some b → a ≡ b
+same_own : (a b : AttributeRange) → Some a ≡ Some b → a ≡ b
 same_own a b e = let is : a ≡ b = cc in is
 
-pub is_start : (part : RowPart) (own : Own) → own_of part ≡ Some own → IsStart part own.first own.count
+pub is_start : (part : RowPart) (own : AttributeRange) → own_of part ≡ Some own → IsStart part own.first own.count
 is_start (parts.Doctype legacy) own is = absurd (cc)
 is_start (parts.Start foreign len count from first) own is =
-    subst (λ (o : Own). IsStart (parts.Start foreign len count from first) o.first o.count) (same_own (record { first = first; count = count }) own is) (record {
+    subst (λ (o : AttributeRange). IsStart (parts.Start foreign len count from first) o.first o.count) (same_own (record { first = first; count = count }) own is) (record {
       event = λ s pieces. refl;
       ends = λ n. refl;
       after = λ n h. h;
@@ -90,7 +90,7 @@ is_start (parts.Start foreign len count from first) own is =
       end_is = λ pieces. refl;
     })
 is_start (parts.LongStart foreign count first) own is =
-    subst (λ (o : Own). IsStart (parts.LongStart foreign count first) o.first o.count) (same_own (record { first = first; count = count }) own is) (record {
+    subst (λ (o : AttributeRange). IsStart (parts.LongStart foreign count first) o.first o.count) (same_own (record { first = first; count = count }) own is) (record {
       event = λ s pieces. refl;
       ends = λ n. refl;
       after = λ n h. omega (arith, h);
@@ -119,11 +119,11 @@ itself part first count is = record {
   inside = λ s n h. h;
 }
 
-pub one_fewer : (part : RowPart) (own : Own) → own_of part ≡ Some own → IsSameStart part (fewer part) own.first (own.count - 1)
+pub one_fewer : (part : RowPart) (own : AttributeRange) → own_of part ≡ Some own → IsSameStart part (fewer part) own.first (own.count - 1)
 one_fewer (parts.Doctype legacy) own is = absurd (cc)
 one_fewer (parts.Start foreign len count from first) own is =
     let part : RowPart = parts.Start foreign len count from first in
-    subst (λ (o : Own). IsSameStart part (fewer part) o.first (o.count - 1)) (same_own (record { first = first; count = count }) own is) (record {
+    subst (λ (o : AttributeRange). IsSameStart part (fewer part) o.first (o.count - 1)) (same_own (record { first = first; count = count }) own is) (record {
       event = λ s pieces. refl;
       ends = λ n. refl;
       after = λ n h. h;
@@ -131,7 +131,7 @@ one_fewer (parts.Start foreign len count from first) own is =
     })
 one_fewer (parts.LongStart foreign count first) own is =
     let part : RowPart = parts.LongStart foreign count first in
-    subst (λ (o : Own). IsSameStart part (fewer part) o.first (o.count - 1)) (same_own (record { first = first; count = count }) own is) (record {
+    subst (λ (o : AttributeRange). IsSameStart part (fewer part) o.first (o.count - 1)) (same_own (record { first = first; count = count }) own is) (record {
       event = λ s pieces. refl;
       ends = λ n. refl;
       after = λ n h. h;

@@ -1,24 +1,24 @@
 -- How a caller shows that there is room in a walk, and that a text may follow.
 use Rattle.std.proofs.Common.{◌≡◌, ℕ, zero, suc, ◌+◌, ◌^◌, ◌<◌, ◌≤◌, Bool, true, false, List, [], ◌∷◌, ◌++◌, length, take, drop, sym, ap, subst, ◌∙◌, refl, arith, length-append}
-use Rattle.hm_base.specs.Walks.{Event, doctype, start, text, comment, end, Element, event_size, same_flag, path_behind, path_after, walk_size, with_text}
+use Rattle.hm_base.specs.Walks.{Event, doctype, start, text, comment, end, Element, event_size, same_flag, path_after_event, path_after, walk_size, with_text}
 use Rattle.hm_tree.specs.Rows.{ends_in_text, extended, with_more}
 use Rattle.hm_tree.specs.Trees.{HasRoom, IsWalk, agrees, last_agrees}
 use Rattle.hm_tree.proofs.TextLemmas.{length-extended, path_after-extended, walk_size-extended, with_text-extended, with_text-push}
 use Rattle.hm_tree.proofs.WalkLemmas.{path_after-push, walk_size-push}
 
 -- an event opens at most one element, and closes at most one
-pub length-path_behind : (path : List Element) (e : Event) → (length (path_behind path e) ≤ length path + 1) × (length path ≤ length (path_behind path e) + 1)
-length-path_behind path (doctype legacy) = (omega arith, omega arith)
-length-path_behind path (start n foreign attributes) = (omega arith, omega arith)
-length-path_behind path (text s raw) = (omega arith, omega arith)
-length-path_behind path (comment s) = (omega arith, omega arith)
-length-path_behind [] (end n foreign) = (omega arith, omega arith)
-length-path_behind (p ∷ path) (end n foreign) = (omega arith, omega arith)
+pub length-path_after_event : (path : List Element) (e : Event) → (length (path_after_event path e) ≤ length path + 1) × (length path ≤ length (path_after_event path e) + 1)
+length-path_after_event path (doctype legacy) = (omega arith, omega arith)
+length-path_after_event path (start n foreign attributes) = (omega arith, omega arith)
+length-path_after_event path (text s raw) = (omega arith, omega arith)
+length-path_after_event path (comment s) = (omega arith, omega arith)
+length-path_after_event [] (end n foreign) = (omega arith, omega arith)
+length-path_after_event (p ∷ path) (end n foreign) = (omega arith, omega arith)
 
 -- one more event, with room for it and for one end
 pub HasRoom-push : (w : List Event) (e : Event) → length w + length (path_after [] w) + 2 < 2 ^ 29 → walk_size w + event_size e < 2 ^ 29 → HasRoom (w ++ e ∷ [])
 HasRoom-push w e events bytes = record {
-  events = omega (arith, ap length (path_after-push [] w e), (length-path_behind (path_after [] w) e).0, length-append w (e ∷ []));
+  events = omega (arith, ap length (path_after-push [] w e), (length-path_after_event (path_after [] w) e).0, length-append w (e ∷ []));
   bytes = omega (arith, walk_size-push w e);
 }
 
@@ -84,12 +84,12 @@ HasRoom-text w s raw events bytes = record {
 
 closes : (path : List Element) (w : List Event) → length path ≤ length (path_after path w) + length w
 closes path [] = omega arith
-closes path (e ∷ w) = omega (arith, closes (path_behind path e) w, (length-path_behind path e).1)
+closes path (e ∷ w) = omega (arith, closes (path_after_event path e) w, (length-path_after_event path e).1)
 
 path_cut : (path : List Element) (w : List Event) (i : ℕ) → path_after (path_after path (take i w)) (drop i w) ≡ path_after path w
 path_cut path w zero = refl
 path_cut path [] (suc i) = refl
-path_cut path (e ∷ w) (suc i) = path_cut (path_behind path e) w i
+path_cut path (e ∷ w) (suc i) = path_cut (path_after_event path e) w i
 
 size_cut : (w : List Event) (i : ℕ) → walk_size (take i w) ≤ walk_size w
 size_cut w zero = omega arith
@@ -112,7 +112,7 @@ HasRoom-take w i walk =
 
 -- one more event takes at most two places, its own and that of its end
 pub length-push : (w : List Event) (e : Event) → length (w ++ e ∷ []) + length (path_after [] (w ++ e ∷ [])) ≤ length w + length (path_after [] w) + 2
-length-push w e = omega (arith, ap length (path_after-push [] w e), (length-path_behind (path_after [] w) e).0, length-append w (e ∷ []))
+length-push w e = omega (arith, ap length (path_after-push [] w e), (length-path_after_event (path_after [] w) e).0, length-append w (e ∷ []))
 
 pub length-text : (w : List Event) (s : List ℕ) (raw : Bool) → length (with_text w s raw) + length (path_after [] (with_text w s raw)) ≤ length w + length (path_after [] w) + 1
 length-text w s raw = omega (arith, length-with_text w s raw, ap length (path_after-with_text [] w s raw))

@@ -93,8 +93,8 @@ module _ (s : List ℕ) (before : List AttributePieces) (attributes : List Attri
   shows : attribute_in ((t ++ a.name) ++ a.value) p ≡ a
   shows = rw (bytes_of-append (t ++ a.name) a.value (name_of p) name_piece, bytes_of-new t a.name (name_of p) from name_to, bytes_of-new (t ++ a.name) a.value (value_of p) middle to) refl
 
-  behind : drop (length before) (pieces ++ p ∷ []) ≡ drop (length before) pieces ++ p ∷ []
-  behind = drop-append-le (length before) pieces (p ∷ []) (omega (arith, ap length h.kept, length-append before (drop (length before) pieces)))
+  after : drop (length before) (pieces ++ p ∷ []) ≡ drop (length before) pieces ++ p ∷ []
+  after = drop-append-le (length before) pieces (p ∷ []) (omega (arith, ap length h.kept, length-append before (drop (length before) pieces)))
 
   whole : (t ++ a.name) ++ a.value ≡ t ++ (a.name ++ a.value)
   whole = append_assoc t a.name a.value
@@ -107,9 +107,9 @@ module _ (s : List ℕ) (before : List AttributePieces) (attributes : List Attri
       let still : All (HasPieces (t ++ (a.name ++ a.value))) old = HasPieces-append t (a.name ++ a.value) old utf8 h.inside in
       record {
         text = whole ∙ ap (λ u. u ++ (a.name ++ a.value)) h.text ∙ rw (flat_map-append (λ b. b.name ++ b.value) attributes (a ∷ []), append-nil) (append_assoc s (texts_of attributes) (a.name ++ a.value));
-        kept = rw (behind, ← append_assoc, h.kept) refl;
-        inside = rw behind (All-push (HasPieces ((t ++ a.name) ++ a.value)) old p (rw whole still) has_pieces);
-        shown = rw behind (map-append (attribute_in ((t ++ a.name) ++ a.value)) old (p ∷ []) ∙ rw (shows, whole, stays) refl);
+        kept = rw (after, ← append_assoc, h.kept) refl;
+        inside = rw after (All-push (HasPieces ((t ++ a.name) ++ a.value)) old p (rw whole still) has_pieces);
+        shown = rw after (map-append (attribute_in ((t ++ a.name) ++ a.value)) old (p ∷ []) ∙ rw (shows, whole, stays) refl);
       }
 
 -- the bytes of the attributes from an index on

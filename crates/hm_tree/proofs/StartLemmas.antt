@@ -77,8 +77,8 @@ module _ (s n t : List ℕ) (before new : List AttributePieces) (foreign : Bool)
   new_is : new ≡ before ++ p ∷ rest
   new_is = sym appended.kept ∙ append_assoc before (p ∷ []) rest
 
-  behind : drop (length before) new ≡ p ∷ rest
-  behind = ap (drop (length before)) new_is ∙ drop_at before (p ∷ rest) (length before) refl
+  following : drop (length before) new ≡ p ∷ rest
+  following = ap (drop (length before)) new_is ∙ drop_at before (p ∷ rest) (length before) refl
 
   piece : IsPiece t name
   piece = named s n t (before ++ p ∷ []) new foreign attributes count name first utf8 texts from to appended begins all
@@ -87,7 +87,7 @@ module _ (s n t : List ℕ) (before new : List AttributePieces) (foreign : Bool)
   name_pieces = rw is (piece, record { ordered = omega arith; from_boundary = piece.to_boundary; to_boundary = piece.to_boundary })
 
   few_pieces : length (drop (length before) new) ≤ length attributes + 1
-  few_pieces = omega (arith, ap length behind, counted s n t (before ++ p ∷ []) new foreign attributes count name first utf8 texts from to appended begins all, all)
+  few_pieces = omega (arith, ap length following, counted s n t (before ++ p ∷ []) new foreign attributes count name first utf8 texts from to appended begins all, all)
 
   name_there : name_before new first ≡ name
   name_there =
@@ -98,8 +98,8 @@ module _ (s n t : List ℕ) (before new : List AttributePieces) (foreign : Bool)
   pub IsStartAppended-long : IsStartAppended s before n foreign attributes t new (parts.LongStart foreign count first)
   IsStartAppended-long = record {
     text = whole s n t (before ++ p ∷ []) new foreign attributes count name first utf8 texts from to appended begins all;
-    kept = ap (λ xs. before ++ xs) behind ∙ sym new_is;
-    pieces_inside = rw behind (All-cons (HasPieces t) p rest name_pieces appended.inside);
+    kept = ap (λ xs. before ++ xs) following ∙ sym new_is;
+    pieces_inside = rw following (All-cons (HasPieces t) p rest name_pieces appended.inside);
     few = few_pieces;
     row_inside = (omega (arith, begins, length-append before (p ∷ [])), omega (arith, last s n t (before ++ p ∷ []) new foreign attributes count name first utf8 texts from to appended begins all));
     after = omega (arith, begins, length-append before (p ∷ []));

@@ -1,7 +1,7 @@
 -- A text appended to a walk: it joins the text that stands last, or stands last itself.
 use Rattle.std.proofs.Common.{◌≡◌, ℕ, ◌+◌, ◌<◌, Bool, true, false, ◌&&◌, List, [], ◌∷◌, ◌++◌, length, ap, ◌∙◌, refl, arith, length-append}
-use Rattle.hm_base.specs.Walks.{Event, doctype, start, text, comment, end, Element, event_size, is_same_element, path_behind, path_after, ends_match, walk_size, with_text}
-use Rattle.hm_tree.specs.Trees.{open_behind, open_after}
+use Rattle.hm_base.specs.Walks.{Event, doctype, start, text, comment, end, Element, event_size, is_same_element, path_after_event, path_after, ends_match, walk_size, with_text}
+use Rattle.hm_tree.specs.Trees.{open_after_event, open_after}
 use Rattle.hm_tree.specs.Rows.{is_text, ends_in_text, with_more, extended}
 use Rattle.hm_tree.proofs.WalkLemmas.{walk_size-push}
 
@@ -59,29 +59,29 @@ walk_size-extended (x ∷ []) more h = omega (arith, with_more-size x more h)
 walk_size-extended (x ∷ y ∷ w) more h = omega (arith, walk_size-extended (y ∷ w) more h)
 
 -- more bytes in a text change nothing of what is open
-path_behind-more : (path : List Element) (x : Event) (more : List ℕ) → path_behind path (with_more x more) ≡ path_behind path x
-path_behind-more path (doctype legacy) more = refl
-path_behind-more path (start n foreign attributes) more = refl
-path_behind-more path (text t is_raw) more = refl
-path_behind-more path (comment t) more = refl
-path_behind-more path (end n foreign) more = refl
+path_after_event-more : (path : List Element) (x : Event) (more : List ℕ) → path_after_event path (with_more x more) ≡ path_after_event path x
+path_after_event-more path (doctype legacy) more = refl
+path_after_event-more path (start n foreign attributes) more = refl
+path_after_event-more path (text t is_raw) more = refl
+path_after_event-more path (comment t) more = refl
+path_after_event-more path (end n foreign) more = refl
 
 pub path_after-extended : (path : List Element) (w : List Event) (more : List ℕ) → path_after path (extended w more) ≡ path_after path w
 path_after-extended path [] more = refl
-path_after-extended path (x ∷ []) more = path_behind-more path x more
-path_after-extended path (x ∷ y ∷ w) more = path_after-extended (path_behind path x) (y ∷ w) more
+path_after-extended path (x ∷ []) more = path_after_event-more path x more
+path_after-extended path (x ∷ y ∷ w) more = path_after-extended (path_after_event path x) (y ∷ w) more
 
-open_behind-more : (ks : List ℕ) (i : ℕ) (x : Event) (more : List ℕ) → open_behind ks i (with_more x more) ≡ open_behind ks i x
-open_behind-more ks i (doctype legacy) more = refl
-open_behind-more ks i (start n foreign attributes) more = refl
-open_behind-more ks i (text t is_raw) more = refl
-open_behind-more ks i (comment t) more = refl
-open_behind-more ks i (end n foreign) more = refl
+open_after_event-more : (ks : List ℕ) (i : ℕ) (x : Event) (more : List ℕ) → open_after_event ks i (with_more x more) ≡ open_after_event ks i x
+open_after_event-more ks i (doctype legacy) more = refl
+open_after_event-more ks i (start n foreign attributes) more = refl
+open_after_event-more ks i (text t is_raw) more = refl
+open_after_event-more ks i (comment t) more = refl
+open_after_event-more ks i (end n foreign) more = refl
 
 pub open_after-extended : (ks : List ℕ) (i : ℕ) (w : List Event) (more : List ℕ) → open_after ks i (extended w more) ≡ open_after ks i w
 open_after-extended ks i [] more = refl
-open_after-extended ks i (x ∷ []) more = open_behind-more ks i x more
-open_after-extended ks i (x ∷ y ∷ w) more = open_after-extended (open_behind ks i x) (i + 1) (y ∷ w) more
+open_after-extended ks i (x ∷ []) more = open_after_event-more ks i x more
+open_after-extended ks i (x ∷ y ∷ w) more = open_after-extended (open_after_event ks i x) (i + 1) (y ∷ w) more
 
 ends_match-cons : (path : List Element) (x y : Event) (w v : List Event) → ((p : List Element) → ends_match p w ≡ ends_match p v) → ends_match path (x ∷ w) ≡ ends_match path (x ∷ v)
 ends_match-cons path (doctype legacy) y w v h = h path

@@ -3,22 +3,22 @@ use Rattle.std.proofs.Common.{◌≡◌, ℕ, zero, suc, ◌+◌, ◌<◌, Bool,
 use Rattle.std.proofs.lemmas.Bool.{and_parts, and_from}
 use Rattle.std.proofs.lemmas.List.{take_more}
 use Rattle.std.proofs.lemmas.Option.{slice_get_within, get_or_from_slice_get}
-use Rattle.hm_base.specs.Walks.{Event, doctype, start, text, comment, end, Element, is_same_element, path_behind, path_after, ends_match, event_size, walk_size}
-use Rattle.hm_tree.specs.Trees.{is_sound, are_sound, open_behind, open_after}
+use Rattle.hm_base.specs.Walks.{Event, doctype, start, text, comment, end, Element, is_same_element, path_after_event, path_after, ends_match, event_size, walk_size}
+use Rattle.hm_tree.specs.Trees.{is_sound, are_sound, open_after_event, open_after}
 use Rattle.hm_tree.specs.Rows.{parents_from}
 
-pub path_after-push : (path : List Element) (w : List Event) (e : Event) → path_after path (w ++ e ∷ []) ≡ path_behind (path_after path w) e
+pub path_after-push : (path : List Element) (w : List Event) (e : Event) → path_after path (w ++ e ∷ []) ≡ path_after_event (path_after path w) e
 path_after-push path [] e = refl
-path_after-push path (x ∷ w) e = path_after-push (path_behind path x) w e
+path_after-push path (x ∷ w) e = path_after-push (path_after_event path x) w e
 
 -- the path after event i
-pub path_after-take : (w : List Event) (i : ℕ) (e : Event) → slice_get w i ≡ Some e → path_after [] (take (i + 1) w) ≡ path_behind (path_after [] (take i w)) e
+pub path_after-take : (w : List Event) (i : ℕ) (e : Event) → slice_get w i ≡ Some e → path_after [] (take (i + 1) w) ≡ path_after_event (path_after [] (take i w)) e
 path_after-take w i e at =
     rw (take_more w i e (slice_get_within w i e at), get_or_from_slice_get w i e e at) (path_after-push [] (take i w) e)
 
-pub open_after-push : (ks : List ℕ) (i : ℕ) (w : List Event) (e : Event) (n : ℕ) → n ≡ i + length w → open_after ks i (w ++ e ∷ []) ≡ open_behind (open_after ks i w) n e
-open_after-push ks i [] e n at = ap (λ k. open_behind ks k e) (let here : i ≡ n = omega arith in here)
-open_after-push ks i (x ∷ w) e n at = open_after-push (open_behind ks i x) (i + 1) w e n (omega arith)
+pub open_after-push : (ks : List ℕ) (i : ℕ) (w : List Event) (e : Event) (n : ℕ) → n ≡ i + length w → open_after ks i (w ++ e ∷ []) ≡ open_after_event (open_after ks i w) n e
+open_after-push ks i [] e n at = ap (λ k. open_after_event ks k e) (let here : i ≡ n = omega arith in here)
+open_after-push ks i (x ∷ w) e n at = open_after-push (open_after_event ks i x) (i + 1) w e n (omega arith)
 
 pub walk_size-push : (w : List Event) (e : Event) → walk_size (w ++ e ∷ []) ≡ walk_size w + event_size e
 walk_size-push [] e = omega arith
@@ -46,12 +46,12 @@ ends_match-push (p ∷ path) (end n foreign ∷ w) e =
 
 pub parents_from-push : (ks : List ℕ) (i : ℕ) (w : List Event) (e : Event) → parents_from ks i (w ++ e ∷ []) ≡ parents_from ks i w ++ slice_get (open_after ks i w) 0 ∷ []
 parents_from-push ks i [] e = refl
-parents_from-push ks i (x ∷ w) e = ap (λ rest. slice_get ks 0 ∷ rest) (parents_from-push (open_behind ks i x) (i + 1) w e)
+parents_from-push ks i (x ∷ w) e = ap (λ rest. slice_get ks 0 ∷ rest) (parents_from-push (open_after_event ks i x) (i + 1) w e)
 
 pub parents_from-at : (ks : List ℕ) (i : ℕ) (w : List Event) (j : ℕ) → j < length w → slice_get (parents_from ks i w) j ≡ Some (slice_get (open_after ks i (take j w)) 0)
 parents_from-at ks i [] j h = absurd (omega arith)
 parents_from-at ks i (x ∷ w) zero h = refl
-parents_from-at ks i (x ∷ w) (suc j) h = parents_from-at (open_behind ks i x) (i + 1) w j (omega arith)
+parents_from-at ks i (x ∷ w) (suc j) h = parents_from-at (open_after_event ks i x) (i + 1) w j (omega arith)
 
 pub are_sound-parts : (w : List Event) (e : Event) → are_sound (w ++ e ∷ []) ≡ true → (are_sound w ≡ true) × (is_sound e ≡ true)
 are_sound-parts [] e all = (refl, (and_parts (is_sound e) true all).0)

@@ -121,11 +121,11 @@ row_parent None = None
 row_parent (Some r) = r.parent
 
 -- the innermost start that is open after row `at`, where `parent` is that before it
-abbrev pub parent_behind : List EventRow → Option ℕ → RowPart → ℕ → Option ℕ
-parent_behind rows parent (parts.Doctype legacy) at = parent
-parent_behind rows parent (parts.Start foreign len count from first) at = Some at
-parent_behind rows parent (parts.LongStart foreign count first) at = Some at
-parent_behind rows parent (parts.Text raw p) at = parent
-parent_behind rows parent (parts.Comment p) at = parent
-parent_behind rows None (parts.End foreign name) at = None
-parent_behind rows (Some k) (parts.End foreign name) at = row_parent (slice_get rows k)
+abbrev pub parent_after : List EventRow → Option ℕ → RowPart → ℕ → Option ℕ
+parent_after rows parent (parts.Doctype legacy) at = parent
+parent_after rows parent (parts.Start foreign len count from first) at = Some at
+parent_after rows parent (parts.LongStart foreign count first) at = Some at
+parent_after rows parent (parts.Text raw p) at = parent
+parent_after rows parent (parts.Comment p) at = parent
+parent_after rows None (parts.End foreign name) at = None
+parent_after rows (Some k) (parts.End foreign name) at = row_parent (slice_get rows k)

@@ -1,7 +1,7 @@
 -- How rows of a table stand for the events of a walk.
 use Rattle.std.specs.Prelude.{◌≡◌, ℕ, ◌+◌, ◌^◌, ◌<◌, ◌≤◌, List, [], ◌∷◌, length, map, slice_range, slice_get, drop, All, Option, Bool, true, false, ◌++◌}
 use Rattle.hm_base.specs.Walks.{Attribute, Event, doctype, start, text, comment, end, walk_size}
-use Rattle.hm_tree.specs.Trees.{IsTold, is_sound, open_behind}
+use Rattle.hm_tree.specs.Trees.{IsTold, is_sound, open_after_event}
 use Rattle.hm_tree.specs.Pieces.{HasPieces, IsPiece, attributes_in, bytes_of, texts_of}
 use Rattle.hm_tree.specs.Starts.{name_before, name_from}
 use Rattle.hm_tree.specs.declared.pieces.AttributePieces.{AttributePieces}
@@ -24,7 +24,7 @@ events_of s pieces rows = map (λ r. event_at s pieces r.part) rows
 -- the parent of each event: the innermost start that is open before it
 abbrev pub parents_from : List ℕ → ℕ → List Event → List (Option ℕ)
 parents_from open_starts i [] = []
-parents_from open_starts i (e ∷ w) = slice_get open_starts 0 ∷ parents_from (open_behind open_starts i e) (i + 1) w
+parents_from open_starts i (e ∷ w) = slice_get open_starts 0 ∷ parents_from (open_after_event open_starts i e) (i + 1) w
 
 -- the row's pieces can be cut out of the text, and its attributes are some of n; a piece stands before those of a long start
 abbrev pub IsInside : List ℕ → ℕ → RowPart → Type 0

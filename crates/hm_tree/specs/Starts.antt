@@ -5,7 +5,7 @@ use Rattle.hm_tree.specs.declared.pieces.AttributePieces.{AttributePieces}
 use Rattle.hm_tree.specs.declared.pieces.TextRange.{TextRange}
 use Rattle.hm_tree.specs.declared.rows.RowPart.{RowPart}
 use Rattle.hm_tree.specs.declared.rows.RowPart.TheVariants as parts
-use Rattle.hm_tree.specs.declared.starts.Own.{Own}
+use Rattle.hm_tree.specs.declared.starts.AttributeRange.{AttributeRange}
 
 -- a name of so many bytes
 abbrev pub name_from : ℕ → ℕ → TextRange
@@ -19,7 +19,7 @@ abbrev pub name_before : List AttributePieces → ℕ → TextRange
 name_before pieces first = name_of (get_or pieces (first - 1) no_piece)
 
 -- which attributes are those of a row, where it is a start
-abbrev pub own_of : RowPart → Option Own
+abbrev pub own_of : RowPart → Option AttributeRange
 own_of (parts.Start foreign len count from first) = Some (record { first = first; count = count })
 own_of (parts.LongStart foreign count first) = Some (record { first = first; count = count })
 own_of part = None

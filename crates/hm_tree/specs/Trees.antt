@@ -75,18 +75,18 @@ last_agrees (e ∷ []) raw = agrees e raw
 last_agrees (e ∷ x ∷ w) raw = last_agrees (x ∷ w) raw
 
 -- the indices of the starts that are open after event i, innermost first
-abbrev pub open_behind : List ℕ → ℕ → Event → List ℕ
-open_behind open_starts i (doctype legacy) = open_starts
-open_behind open_starts i (start n foreign attributes) = i ∷ open_starts
-open_behind open_starts i (text s raw) = open_starts
-open_behind open_starts i (comment s) = open_starts
-open_behind [] i (end n foreign) = []
-open_behind (k ∷ open_starts) i (end n foreign) = open_starts
+abbrev pub open_after_event : List ℕ → ℕ → Event → List ℕ
+open_after_event open_starts i (doctype legacy) = open_starts
+open_after_event open_starts i (start n foreign attributes) = i ∷ open_starts
+open_after_event open_starts i (text s raw) = open_starts
+open_after_event open_starts i (comment s) = open_starts
+open_after_event [] i (end n foreign) = []
+open_after_event (k ∷ open_starts) i (end n foreign) = open_starts
 
 -- those after a list of events, the first of which has the index i
 abbrev pub open_after : List ℕ → ℕ → List Event → List ℕ
 open_after open_starts i [] = open_starts
-open_after open_starts i (e ∷ w) = open_after (open_behind open_starts i e) (i + 1) w
+open_after open_starts i (e ∷ w) = open_after (open_after_event open_starts i e) (i + 1) w
 
 -- the innermost start that is open after the walk
 abbrev pub innermost : List Event → Option ℕ

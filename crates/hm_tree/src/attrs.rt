@@ -8,7 +8,7 @@ ghost use Rattle.hm_tree.specs.Pieces.{texts_of};
 
 use crate::names::{has_among, note};
 use crate::pieces::{Pair, name_in, value_in};
-use hm_base::Memory;
+use hm_base::OutOfMemory;
 use indexmap::IndexSet;
 use std::alloc::Global;
 use std::marker::Model;
@@ -89,7 +89,7 @@ impl Attrs {
 
     /// Appends an attribute whose name isn't there yet, and says whether it did. Where memory is
     /// refused, nothing changes.
-    pub fn add(&mut self, name: String, value: String) -> Result<bool, Memory>
+    pub fn add(&mut self, name: String, value: String) -> Result<bool, OutOfMemory>
         requires room { has_name (string_bytes name) self.old ≡ false → length self.old + 1 < 2 ^ 32 }
         ensures there { IfOk result (λ added. added ≡ not (has_name (string_bytes name) self.old)) }
         ensures after { IfOk result (λ added. self.new ≡ (if added then self.old ++ record { name = string_bytes name; value = string_bytes value } ∷ [] else self.old)) }
@@ -99,7 +99,7 @@ impl Attrs {
     }
 
     /// The same of texts that are copied.
-    pub fn put(&mut self, name: &str, value: &str) -> Result<bool, Memory>
+    pub fn put(&mut self, name: &str, value: &str) -> Result<bool, OutOfMemory>
         requires room { has_name name.now self.old ≡ false → length self.old + 1 < 2 ^ 32 }
         ensures there { IfOk result (λ added. added ≡ not (has_name name.now self.old)) }
         ensures after { IfOk result (λ added. self.new ≡ (if added then self.old ++ record { name = name.now; value = value.now } ∷ [] else self.old)) }
@@ -151,7 +151,7 @@ fn make_room(
     table: &mut Option<IndexSet<String>>,
     name: &str,
     value: &str,
-) -> Result<(), Memory>
+) -> Result<(), OutOfMemory>
     requires pieces { All (HasPair (string_bytes text.old)) pairs.old.items }
     requires noted { IfSome table.old (λ names. HasNames names (attributes_of (string_bytes text.old) pairs.old.items)) }
     ensures kept { (string_bytes text.new ≡ string_bytes text.old) × (pairs.new.items ≡ pairs.old.items) }

@@ -13,9 +13,9 @@ use crate::pieces::{AttributePieces, TextRange};
 use crate::rows::{EventRow, RowPart};
 use crate::shown::show;
 use crate::starts::{fewer, own_of};
-use crate::table::{Table, empty_in_part, move_in_part};
+use crate::table::{EventTable, empty_in_part, move_in_part};
 use crate::{EventView, Tree};
-use hm_base::Memory;
+use hm_base::OutOfMemory;
 use std::marker::Model;
 
 /// A tree whose events are gone through, each kept, changed or left out. Contracts see the events that are done and those
@@ -47,11 +47,11 @@ impl Model for Editor {
 }
 
 impl Editor {
-    pub(crate) fn of(table: Table) -> Editor
+    pub(crate) fn of(table: EventTable) -> Editor
         requires { IsMade table }
         ensures { result ≡ record { done = []; left = table } }
     {
-        let Table {
+        let EventTable {
             text,
             attributes,
             rows,
@@ -137,7 +137,7 @@ impl Editor {
     {
         let row = self.rows[self.next as usize];
         let parent = self.parent;
-        self.parent = parent_behind(self.rows.as_slice(), parent, row.part, self.done);
+        self.parent = parent_after(self.rows.as_slice(), parent, row.part, self.done);
         self.rows[self.done as usize] = EventRow {
             part: row.part,
             parent: Parent::of(parent),
@@ -203,7 +203,7 @@ impl Editor {
     }
 
     /// Puts a text in place of the next event, a text, and of the `count` texts and comments after it.
-    pub fn join(&mut self, count: u32, text: &str) -> Result<(), Memory>
+    pub fn join(&mut self, count: u32, text: &str) -> Result<(), OutOfMemory>
         requires { IsJoined self.old.left count text.now }
         ensures ok { OnOk result (self.new ≡ record { done = self.old.done; left = with_joined count text.now self.old.left }) }
         ensures err { OnErr result (self.new ≡ self.old) }
@@ -241,7 +241,7 @@ impl Editor {
     }
 
     /// Puts a text that isn't longer in place of the next event, a text.
-    pub fn put_text(&mut self, text: &str) -> Result<(), Memory>
+    pub fn put_text(&mut self, text: &str) -> Result<(), OutOfMemory>
         requires { IsShorter self.old.left text.now }
         ensures ok { OnOk result (self.new ≡ record { done = self.old.done; left = with_first_text text.now self.old.left }) }
         ensures err { OnErr result (self.new ≡ self.old) }
@@ -274,14 +274,14 @@ impl Editor {
         rows.truncate(done as usize);
         rows.shrink_to_fit();
         text.shrink_to_fit();
-        Tree::of(Table::of(text, attributes, rows))
+        Tree::of(EventTable::of(text, attributes, rows))
     }
 }
 
 // The innermost start that is open after row `at`, where `parent` is that before it.
-fn parent_behind(rows: &[EventRow], parent: Option<u32>, part: RowPart, at: u32) -> Option<u32>
+fn parent_after(rows: &[EventRow], parent: Option<u32>, part: RowPart, at: u32) -> Option<u32>
     requires { IfSome parent (λ k. k < length rows.now) }
-    ensures { result ≡ edits.parent_behind rows.now parent part at }
+    ensures { result ≡ edits.parent_after rows.now parent part at }
 {
     match part {
         RowPart::Start { .. } | RowPart::LongStart { .. } => Some(at),
@@ -295,14 +295,14 @@ fn parent_behind(rows: &[EventRow], parent: Option<u32>, part: RowPart, at: u32)
 
 // Appends a text after all bytes that are there.
 #[inline(always)]
-fn append_last(text: &mut String, more: &str) -> Result<TextRange, Memory>
+fn append_last(text: &mut String, more: &str) -> Result<TextRange, OutOfMemory>
     ensures bytes { OnOk result (string_bytes text.new ≡ string_bytes text.old ++ more.now) }
     ensures from { IfOk result (λ range. range.from ≡ length (string_bytes text.old)) }
     ensures to { IfOk result (λ range. range.to ≡ length (string_bytes text.old) + length more.now) }
     ensures err { OnErr result (string_bytes text.new ≡ string_bytes text.old) }
 {
     let Ok(to) = u32::try_from(text.len() + more.len()) else {
-        return Err(Memory);
+        return Err(OutOfMemory);
     };
     let from = text.len() as u32;
     text.push_str(more)?;

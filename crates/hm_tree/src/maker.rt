@@ -8,7 +8,7 @@ ghost use Rattle.hm_tree.specs.Views.{attributes_shown};
 use crate::rows::Rows;
 use crate::sources::AttributeSource;
 use crate::{Attrs, AttrsView, Tree};
-use hm_base::Memory;
+use hm_base::OutOfMemory;
 use std::alloc::Global;
 use std::marker::Model;
 
@@ -56,7 +56,7 @@ impl Maker {
     }
 
     /// Appends a doctype.
-    pub fn doctype(&mut self, legacy: bool) -> Result<(), Memory>
+    pub fn doctype(&mut self, legacy: bool) -> Result<(), OutOfMemory>
         requires { HasRoom (self.old ++ doctype legacy ∷ []) }
         ensures ok { OnOk result (self.new ≡ self.old ++ doctype legacy ∷ []) }
         ensures err { OnErr result (self.new ≡ self.old) }
@@ -66,7 +66,7 @@ impl Maker {
     }
 
     /// Appends the start of an element, which is then open. One with more than 65,535 attributes is refused as memory is.
-    pub fn start(&mut self, name: &str, foreign: bool, attrs: Attrs) -> Result<(), Memory>
+    pub fn start(&mut self, name: &str, foreign: bool, attrs: Attrs) -> Result<(), OutOfMemory>
         requires { HasRoom (self.old ++ start name.now foreign attrs ∷ []) }
         ensures ok { OnOk result (self.new ≡ self.old ++ start name.now foreign attrs ∷ []) }
         ensures err { OnErr result (self.new ≡ self.old) }
@@ -75,7 +75,12 @@ impl Maker {
     }
 
     /// The same with attributes that the caller keeps.
-    pub fn start_from(&mut self, name: &str, foreign: bool, attrs: &Attrs) -> Result<(), Memory>
+    pub fn start_from(
+        &mut self,
+        name: &str,
+        foreign: bool,
+        attrs: &Attrs,
+    ) -> Result<(), OutOfMemory>
         requires { HasRoom (self.old ++ start name.now foreign attrs.now ∷ []) }
         ensures ok { OnOk result (self.new ≡ self.old ++ start name.now foreign attrs.now ∷ []) }
         ensures err { OnErr result (self.new ≡ self.old) }
@@ -89,7 +94,7 @@ impl Maker {
         name: &str,
         foreign: bool,
         attrs: &AttrsView<'_>,
-    ) -> Result<(), Memory>
+    ) -> Result<(), OutOfMemory>
         requires { HasRoom (self.old ++ start name.now foreign (attributes_shown attrs.now) ∷ []) }
         ensures ok { OnOk result (self.new ≡ self.old ++ start name.now foreign (attributes_shown attrs.now) ∷ []) }
         ensures err { OnErr result (self.new ≡ self.old) }
@@ -103,7 +108,7 @@ impl Maker {
         name: &str,
         foreign: bool,
         attrs: &AttributeSource<'_>,
-    ) -> Result<(), Memory>
+    ) -> Result<(), OutOfMemory>
         requires { HasRoom (self.old ++ start name.now foreign (listed attrs.now) ∷ []) }
         ensures ok { OnOk result (self.new ≡ self.old ++ start name.now foreign (listed attrs.now) ∷ []) }
         ensures err { OnErr result (self.new ≡ self.old) }
@@ -117,7 +122,7 @@ impl Maker {
 
     /// Appends a text to what is there (HTML Standard, #creating-and-inserting-nodes). It joins a text that stands last, and an
     /// empty one adds nothing.
-    pub fn text(&mut self, text: &str, raw: bool) -> Result<(), Memory>
+    pub fn text(&mut self, text: &str, raw: bool) -> Result<(), OutOfMemory>
         requires room { HasRoom (with_text self.old text.now raw) }
         requires same_raw { last_agrees self.old raw ≡ true }
         ensures ok { OnOk result (self.new ≡ with_text self.old text.now raw) }
@@ -128,7 +133,7 @@ impl Maker {
     }
 
     /// Appends a comment.
-    pub fn comment(&mut self, text: &str) -> Result<(), Memory>
+    pub fn comment(&mut self, text: &str) -> Result<(), OutOfMemory>
         requires { HasRoom (self.old ++ comment text.now ∷ []) }
         ensures ok { OnOk result (self.new ≡ self.old ++ comment text.now ∷ []) }
         ensures err { OnErr result (self.new ≡ self.old) }
@@ -139,7 +144,7 @@ impl Maker {
 
     /// Appends the end of the innermost open element. There is always room for it.
     #[inline(always)]
-    pub fn end(&mut self) -> Result<(), Memory>
+    pub fn end(&mut self) -> Result<(), OutOfMemory>
         requires { 0 < length (path_after [] self.old) }
         ensures ok { OnOk result (self.new ≡ self.old ++ end_of (path_after [] self.old)) }
         ensures err { OnErr result (self.new ≡ self.old) }

@@ -5,7 +5,7 @@ ghost use Rattle.hm_tree.specs.Names.{HasNames};
 ghost use Rattle.hm_tree.specs.Pairs.{HasPair, attributes_of};
 
 use crate::pieces::{Pair, name_in};
-use hm_base::Memory;
+use hm_base::OutOfMemory;
 use indexmap::IndexSet;
 use std::alloc::Global;
 
@@ -13,7 +13,7 @@ use std::alloc::Global;
 const FEW: usize = 32;
 
 // Adds a name to a table.
-fn add(table: &mut IndexSet<String>, name: &str) -> Result<(), Memory>
+fn add(table: &mut IndexSet<String>, name: &str) -> Result<(), OutOfMemory>
     ensures ok { OnOk result ((attributes : List Attribute) (a : Attribute) → a.name ≡ name.now → HasNames table.old attributes → HasNames table.new (attributes ++ a ∷ [])) }
     ensures err { OnErr result ((attributes : List Attribute) → HasNames table.old attributes → HasNames table.new attributes) }
 {
@@ -51,7 +51,7 @@ pub(crate) fn has_among(text: &str, pairs: &[Pair], name: &str) -> bool
 }
 
 // A table of the names of the attributes.
-fn table_of(alloc: Global, text: &str, pairs: &[Pair]) -> Result<IndexSet<String>, Memory>
+fn table_of(alloc: Global, text: &str, pairs: &[Pair]) -> Result<IndexSet<String>, OutOfMemory>
     requires { All (HasPair text.now) pairs.now }
     ensures { IfOk result (λ table. HasNames table (attributes_of text.now pairs.now)) }
 {
@@ -69,7 +69,7 @@ fn table_with(
     text: &str,
     pairs: &[Pair],
     name: &str,
-) -> Result<IndexSet<String>, Memory>
+) -> Result<IndexSet<String>, OutOfMemory>
     requires { All (HasPair text.now) pairs.now }
     ensures { IfOk result (λ table. (a : Attribute) → a.name ≡ name.now → HasNames table (attributes_of text.now pairs.now ++ a ∷ [])) }
 {
@@ -85,7 +85,7 @@ pub(crate) fn note(
     text: &str,
     pairs: &[Pair],
     name: &str,
-) -> Result<(), Memory>
+) -> Result<(), OutOfMemory>
     requires pieces { All (HasPair text.now) pairs.now }
     requires noted { IfSome table.old (λ names. HasNames names (attributes_of text.now pairs.now)) }
     ensures ok { OnOk result ((a : Attribute) → a.name ≡ name.now → IfSome table.new (λ names. HasNames names (attributes_of text.now pairs.now ++ a ∷ []))) }

@@ -12,8 +12,8 @@ use crate::parent::Parent;
 use crate::pieces::{AttributePieces, TextRange};
 use crate::sources::{AttributeSource, count};
 use crate::starts::{end_part, start_part};
-use crate::table::Table;
-use hm_base::Memory;
+use crate::table::EventTable;
+use hm_base::OutOfMemory;
 use std::alloc::Global;
 use std::marker::Model;
 
@@ -103,7 +103,7 @@ impl Rows {
     }
 
     // The table of these events, with no room to spare.
-    pub(crate) fn finish(self) -> Table
+    pub(crate) fn finish(self) -> EventTable
         ensures { result ≡ self }
     {
         let Rows {
@@ -114,7 +114,7 @@ impl Rows {
         text.shrink_to_fit();
         attributes.shrink_to_fit();
         rows.shrink_to_fit();
-        Table::of(text, attributes, rows)
+        EventTable::of(text, attributes, rows)
     }
 
     pub(crate) fn parent(&self, i: u32) -> Option<u32>
@@ -124,7 +124,11 @@ impl Rows {
         self.rows[i as usize].parent.index()
     }
 
-    pub(crate) fn push_doctype(&mut self, legacy: bool, parent: Option<u32>) -> Result<(), Memory>
+    pub(crate) fn push_doctype(
+        &mut self,
+        legacy: bool,
+        parent: Option<u32>,
+    ) -> Result<(), OutOfMemory>
         requires room { length self.old + 1 < 2 ^ 29 }
         requires parent { parent ≡ innermost self.old }
         ensures ok { OnOk result (self.new ≡ self.old ++ doctype legacy ∷ []) }
@@ -145,7 +149,7 @@ impl Rows {
         foreign: bool,
         attrs: &AttributeSource<'_>,
         parent: Option<u32>,
-    ) -> Result<(), Memory>
+    ) -> Result<(), OutOfMemory>
         requires room { length self.old + 1 < 2 ^ 29 }
         requires bytes { walk_size self.old + event_size (start name.now foreign (listed attrs.now)) < 2 ^ 29 }
         requires parent { parent ≡ innermost self.old }
@@ -177,7 +181,7 @@ impl Rows {
         text: &str,
         raw: bool,
         parent: Option<u32>,
-    ) -> Result<(), Memory>
+    ) -> Result<(), OutOfMemory>
         requires room { length self.old + 1 < 2 ^ 29 }
         requires bytes { walk_size self.old + length text.now < 2 ^ 29 }
         requires parent { parent ≡ innermost self.old }
@@ -192,7 +196,11 @@ impl Rows {
         Ok(())
     }
 
-    pub(crate) fn push_comment(&mut self, text: &str, parent: Option<u32>) -> Result<(), Memory>
+    pub(crate) fn push_comment(
+        &mut self,
+        text: &str,
+        parent: Option<u32>,
+    ) -> Result<(), OutOfMemory>
         requires room { length self.old + 1 < 2 ^ 29 }
         requires bytes { walk_size self.old + length text.now < 2 ^ 29 }
         requires parent { parent ≡ innermost self.old }
@@ -214,7 +222,7 @@ impl Rows {
         text: &str,
         raw: bool,
         parent: Option<u32>,
-    ) -> Result<(), Memory>
+    ) -> Result<(), OutOfMemory>
         requires room { length (with_text self.old text.now raw) < 2 ^ 29 }
         requires bytes { walk_size (with_text self.old text.now raw) < 2 ^ 29 }
         requires parent { parent ≡ innermost self.old }
@@ -243,7 +251,7 @@ impl Rows {
     }
 
     // Joins the text that stands last.
-    fn extend_text(&mut self, more: &str) -> Result<(), Memory>
+    fn extend_text(&mut self, more: &str) -> Result<(), OutOfMemory>
         requires ends { ends_in_text self.old ≡ true }
         requires bytes { walk_size self.old + length more.now < 2 ^ 29 }
         ensures ok { OnOk result (self.new ≡ extended self.old more.now) }
@@ -268,7 +276,7 @@ impl Rows {
     }
 
     // Puts the end of the innermost open element, whose start is event `start`.
-    pub(crate) fn push_end(&mut self, start: u32) -> Result<(), Memory>
+    pub(crate) fn push_end(&mut self, start: u32) -> Result<(), OutOfMemory>
         requires room { length self.old + 1 < 2 ^ 29 }
         requires parent { Some start ≡ innermost self.old }
         ensures ok { OnOk result (self.new ≡ self.old ++ end_of (path_after [] self.old)) }
@@ -284,7 +292,7 @@ impl Rows {
 
 // Makes room for a row and for so many bytes.
 #[inline(always)]
-fn row_room(text: &mut String, rows: &mut Vec<EventRow>, bytes: usize) -> Result<(), Memory>
+fn row_room(text: &mut String, rows: &mut Vec<EventRow>, bytes: usize) -> Result<(), OutOfMemory>
     ensures kept { (string_bytes text.new ≡ string_bytes text.old) × (rows.new.items ≡ rows.old.items) }
     ensures ok { OnOk result ((string_len text.new + bytes ≤ string_capacity text.new) × (vec_len rows.new + 1 ≤ vec_capacity rows.new)) }
 {
@@ -301,7 +309,7 @@ fn start_room(
     rows: &mut Vec<EventRow>,
     name: &str,
     attrs: &AttributeSource<'_>,
-) -> Result<u16, Memory>
+) -> Result<u16, OutOfMemory>
     requires { length name.now + attributes_size (listed attrs.now) < 2 ^ 29 }
     ensures kept { (string_bytes text.new ≡ string_bytes text.old) × (attributes.new.items ≡ attributes.old.items) × (rows.new.items ≡ rows.old.items) }
     ensures sound { (has_distinct_names (listed attrs.now) ≡ true) × (are_texts (listed attrs.now) ≡ true) }
@@ -310,7 +318,7 @@ fn start_room(
         × (vec_len attributes.new + length (listed attrs.now) ≤ vec_capacity attributes.new) × (vec_len rows.new + 1 ≤ vec_capacity rows.new)) }
 {
     let Ok(count) = u16::try_from(count(attrs)) else {
-        return Err(Memory);
+        return Err(OutOfMemory);
     };
     attributes.reserve(usize::from(count))?;
     row_room(text, rows, name.len() + text_len(attrs))?;

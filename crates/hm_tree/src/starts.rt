@@ -12,26 +12,26 @@ use crate::appended::{append, append_attributes};
 use crate::pieces::{AttributePieces, TextRange};
 use crate::rows::RowPart;
 use crate::sources::AttributeSource;
-use hm_base::Memory;
+use hm_base::OutOfMemory;
 
 // The index of a start's first attribute, and how many it has.
 #[derive(Clone, Copy)]
-pub(crate) struct Own {
+pub(crate) struct AttributeRange {
     pub(crate) first: u32,
     pub(crate) count: u16,
 }
 
 // The attributes of a row, where it is a start.
 #[inline(always)]
-pub(crate) fn own_of(part: RowPart) -> Option<Own>
+pub(crate) fn own_of(part: RowPart) -> Option<AttributeRange>
     ensures { result ≡ parts.own_of part }
 {
     match part {
-        RowPart::Start { count, first, .. } => Some(Own {
+        RowPart::Start { count, first, .. } => Some(AttributeRange {
             first,
             count: u16::from(count),
         }),
-        RowPart::LongStart { count, first, .. } => Some(Own { first, count }),
+        RowPart::LongStart { count, first, .. } => Some(AttributeRange { first, count }),
         _ => None,
     }
 }
@@ -107,7 +107,7 @@ pub(crate) fn start_part(
     foreign: bool,
     count: u16,
     attrs: &AttributeSource<'_>,
-) -> Result<RowPart, Memory>
+) -> Result<RowPart, OutOfMemory>
     requires count { count ≡ length (listed attrs.now) }
     requires texts { are_texts (listed attrs.now) ≡ true }
     requires room { string_len text.old + (length name.now + attributes_size (listed attrs.now)) ≤ string_capacity text.old }
@@ -147,7 +147,7 @@ fn long_part(
     foreign: bool,
     count: u16,
     attrs: &AttributeSource<'_>,
-) -> Result<RowPart, Memory>
+) -> Result<RowPart, OutOfMemory>
     requires count { count ≡ length (listed attrs.now) }
     requires texts { are_texts (listed attrs.now) ≡ true }
     requires room { string_len text.old + (length name.now + attributes_size (listed attrs.now)) ≤ string_capacity text.old }

@@ -15,13 +15,13 @@ use std::marker::Model;
 
 // A list of events. Bytes and attributes may be there that no row points at.
 #[derive(Drop)]
-pub(crate) struct Table {
+pub(crate) struct EventTable {
     pub(crate) text: String,
     pub(crate) attributes: Vec<AttributePieces>,
     pub(crate) rows: Vec<EventRow>,
 }
 
-impl Model for Table {
+impl Model for EventTable {
     ghost use Rattle.std.specs.Prelude.{List, string_bytes};
     ghost use Rattle.hm_base.specs.Walks.{Event};
 
@@ -34,12 +34,16 @@ impl Model for Table {
     ghost invariant = { λ t. IsTable (string_bytes t.text) t.attributes.items t.rows.items };
 }
 
-impl Table {
-    pub(crate) fn of(text: String, attributes: Vec<AttributePieces>, rows: Vec<EventRow>) -> Table
+impl EventTable {
+    pub(crate) fn of(
+        text: String,
+        attributes: Vec<AttributePieces>,
+        rows: Vec<EventRow>,
+    ) -> EventTable
         requires { IsTable (string_bytes text) attributes.items rows.items }
         ensures { result ≡ events_of (string_bytes text) attributes.items rows.items }
     {
-        Table {
+        EventTable {
             text,
             attributes,
             rows,
@@ -55,7 +59,7 @@ impl Table {
 
     // Frees the memory. The lists are cut short in place before they are freed.
     pub(crate) fn release(self) {
-        let Table {
+        let EventTable {
             mut text,
             mut attributes,
             mut rows,

@@ -4,7 +4,7 @@ ghost use Rattle.hm_tree.specs.Lexemes.{spanned_of, token_of};
 ghost use Rattle.hm_tree.specs.declared.tokens.Lexeme.TheVariants as lexemes;
 
 use crate::Attrs;
-use hm_base::{Memory, Points, Word};
+use hm_base::{OutOfMemory, OwnedText, Points};
 use std::alloc::{AllocError, AllocFailed, Global};
 use thiserror::Error;
 
@@ -15,12 +15,12 @@ pub enum Token {
         legacy: bool,
     },
     StartTag {
-        name: Word,
+        name: OwnedText,
         attrs: Attrs,
         slash: bool,
     },
     EndTag {
-        name: Word,
+        name: OwnedText,
     },
     /// The bytes from `from` up to `to` of the source text.
     Slice {
@@ -72,7 +72,7 @@ impl Tag {
     {
         let Tag { name, attrs } = self;
         Token::StartTag {
-            name: Word { text: name },
+            name: OwnedText { text: name },
             attrs,
             slash,
         }
@@ -85,7 +85,7 @@ impl Tag {
     {
         let Tag { name, .. } = self;
         Token::EndTag {
-            name: Word { text: name },
+            name: OwnedText { text: name },
         }
     }
 }
@@ -177,41 +177,41 @@ pub enum ScanFault {
     #[error("a doctype of another form")]
     BadDoctype,
     #[error("memory was refused")]
-    Memory,
+    OutOfMemory,
 }
 
 impl From<AllocError> for ScanFault {
     ghost use Rattle.std.specs.Prelude.{◌≡◌};
     ghost use Rattle.hm_tree.specs.declared.tokens.ScanFault.{ScanFault};
-    ghost use Rattle.hm_tree.specs.declared.tokens.ScanFault.TheVariants.{Memory};
+    ghost use Rattle.hm_tree.specs.declared.tokens.ScanFault.TheVariants.{OutOfMemory};
 
-    ghost from_gives = { λ _ fault. fault ≡ Memory };
+    ghost from_gives = { λ _ fault. fault ≡ OutOfMemory };
 
     fn from(_error: AllocError) -> Self {
-        ScanFault::Memory
+        ScanFault::OutOfMemory
     }
 }
 
 impl<T: Drop> From<AllocFailed<T>> for ScanFault {
     ghost use Rattle.std.specs.Prelude.{◌≡◌};
     ghost use Rattle.hm_tree.specs.declared.tokens.ScanFault.{ScanFault};
-    ghost use Rattle.hm_tree.specs.declared.tokens.ScanFault.TheVariants.{Memory};
+    ghost use Rattle.hm_tree.specs.declared.tokens.ScanFault.TheVariants.{OutOfMemory};
 
-    ghost from_gives = { λ _ fault. fault ≡ Memory };
+    ghost from_gives = { λ _ fault. fault ≡ OutOfMemory };
 
     fn from(_error: AllocFailed<T>) -> Self {
-        ScanFault::Memory
+        ScanFault::OutOfMemory
     }
 }
 
-impl From<Memory> for ScanFault {
+impl From<OutOfMemory> for ScanFault {
     ghost use Rattle.std.specs.Prelude.{◌≡◌};
     ghost use Rattle.hm_tree.specs.declared.tokens.ScanFault.{ScanFault};
-    ghost use Rattle.hm_tree.specs.declared.tokens.ScanFault.TheVariants.{Memory};
+    ghost use Rattle.hm_tree.specs.declared.tokens.ScanFault.TheVariants.{OutOfMemory};
 
-    ghost from_gives = { λ _ fault. fault ≡ Memory };
+    ghost from_gives = { λ _ fault. fault ≡ OutOfMemory };
 
-    fn from(_error: Memory) -> Self {
-        ScanFault::Memory
+    fn from(_error: OutOfMemory) -> Self {
+        ScanFault::OutOfMemory
     }
 }

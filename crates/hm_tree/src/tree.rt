@@ -5,7 +5,7 @@ ghost use Rattle.hm_tree.specs.Moved.{put_last};
 ghost use Rattle.hm_tree.specs.Trees.{DifferFirstAt, IsStartAt, IsWalk, are_texts_apart, parent_of};
 ghost use Rattle.hm_tree.specs.Views.{event_of};
 
-use crate::table::Table;
+use crate::table::EventTable;
 use crate::{Editor, EventView, Maker};
 use std::alloc::Global;
 use std::marker::Model;
@@ -14,7 +14,7 @@ use std::marker::Model;
 /// neither are empty nor touch.
 #[derive(Drop)]
 pub struct Tree {
-    table: Table,
+    table: EventTable,
 }
 
 impl Model for Tree {
@@ -38,7 +38,7 @@ impl Tree {
         Maker::new(alloc)
     }
 
-    pub(crate) fn of(table: Table) -> Tree
+    pub(crate) fn of(table: EventTable) -> Tree
         requires matched { ends_match [] table ≡ true }
         requires closed { path_after [] table ≡ [] }
         requires apart { are_texts_apart table ≡ true }

@@ -42,15 +42,15 @@ first_fresh : (w : Text) (ws : List Text) (rows : List Row) → IsFresh (w ∷ w
 first_fresh w ws rows (inl h) = h.0
 first_fresh w ws rows (inr none) = absurd (true≢false (sym (eq_self w) ∙ or_first _ _ none))
 
-fresh_behind_name : (v : Text) (p : Option Text) (ws : List Text) (rows : List Row) → is_flag v ≡ false → AreFresh (v ∷ ws) rows → AreFresh ws (with_name p rows)
-fresh_behind_name v p ws rows e fresh w flag = by_case (fresh w flag)
+fresh_after_name : (v : Text) (p : Option Text) (ws : List Text) (rows : List Row) → is_flag v ≡ false → AreFresh (v ∷ ws) rows → AreFresh ws (with_name p rows)
+fresh_after_name v p ws rows e fresh w flag = by_case (fresh w flag)
   where
     by_case : IsFresh (v ∷ ws) rows w → IsFresh ws (with_name p rows) w
     by_case (inl h) = inl (name_alone p (name_of w) rows (flag_apart w flag) ∙ h.0, single_rest v w ws (ap (bytes_eq v) (is_dashed w flag) ∙ no_dashed v (name_of w) e) h.1)
     by_case (inr none) = inr (or_second _ _ none)
 
-fresh_behind_flag : (f : Text) (p : Option Text) (ws : List Text) (rows : List Row) → has flags f ≡ true → AreFresh (f ∷ ws) rows → AreFresh ws (with_flag (name_of f) (with_name p rows))
-fresh_behind_flag f p ws rows known fresh w flag = by_case (bytes_eq f w) refl (fresh w flag)
+fresh_after_flag : (f : Text) (p : Option Text) (ws : List Text) (rows : List Row) → has flags f ≡ true → AreFresh (f ∷ ws) rows → AreFresh ws (with_flag (name_of f) (with_name p rows))
+fresh_after_flag f p ws rows known fresh w flag = by_case (bytes_eq f w) refl (fresh w flag)
   where
     by_case : (b : Bool) → bytes_eq f w ≡ b → IsFresh (f ∷ ws) rows w → IsFresh ws (with_flag (name_of f) (with_name p rows)) w
     by_case true t (inl h) = inr (once f w ws t h.1)
@@ -73,9 +73,9 @@ walk_taken (w ∷ ws) rows p known fresh =
         let is_known = known_first w ws known t in
         let none : row_at (name_of w) (with_name p rows) ≡ None = name_alone p (name_of w) rows (flag_apart w is_known) ∙ first_fresh w ws rows (fresh w is_known) in
         both_true _ _ (flag_turn rows p w is_known (has_row_is (name_of w) (with_name p rows) ∙ ap is_some none))
-        (ap (λ x. walk_passes shape [] x ws) (flag_step rows p w is_known) ∙ flag (fresh_behind_flag w p ws rows is_known fresh))
+        (ap (λ x. walk_passes shape [] x ws) (flag_step rows p w is_known) ∙ flag (fresh_after_flag w p ws rows is_known fresh))
     by_test false t flag name =
-        both_true _ _ (name_turn rows p w t) (ap (λ x. walk_passes shape [] x ws) (name_step rows p w t) ∙ name (fresh_behind_name w p ws rows t fresh))
+        both_true _ _ (name_turn rows p w t) (ap (λ x. walk_passes shape [] x ws) (name_step rows p w t) ∙ name (fresh_after_name w p ws rows t fresh))
 
 settle_taken : (rows : List Row) (p : Option Text) → settle_passes rules false (stands rows p).held ≡ true
 settle_taken rows None = refl

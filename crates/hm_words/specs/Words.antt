@@ -5,8 +5,8 @@ use Rattle.std.specs.List.{list_any, list_all}
 use Rattle.std.specs.Str.Parse.{digits_value}
 use Rattle.hm_base.specs.Bytes.{is_null}
 use Rattle.hm_base.specs.declared.plain.TreeOptions.{TreeOptions}
-use Rattle.hm_words.specs.declared.commands.Deed.{Deed}
-use Rattle.hm_words.specs.declared.commands.Deed.TheVariants as deeds
+use Rattle.hm_words.specs.declared.commands.Action.{Action}
+use Rattle.hm_words.specs.declared.commands.Action.TheVariants as deeds
 use Rattle.hm_words.specs.declared.commands.Source.{Source}
 use Rattle.hm_words.specs.declared.commands.Source.TheVariants as sources
 use Rattle.hm_words.specs.declared.flags.Choices.{Choices}
@@ -206,9 +206,9 @@ number_in least most word = if is_number word && (nat_le least (digits_value 10 
 pub record CommandRow : Type 0 where
   pub name : List ℕ
   pub source : Source
-  pub deed : Deed
+  pub deed : Action
 
-abbrev command_row : List ℕ → Source → Deed → CommandRow
+abbrev command_row : List ℕ → Source → Action → CommandRow
 command_row name source deed = record { name = name; source = source; deed = deed }
 
 -- the table of commands
@@ -226,11 +226,11 @@ commands =
     ∷ []
 
 -- the row of a name
-abbrev pub row_among : List CommandRow → List ℕ → Option (Source × Deed)
+abbrev pub row_among : List CommandRow → List ℕ → Option (Source × Action)
 row_among [] name = None
 row_among (row ∷ rows) name = if bytes_eq name row.name then Some (row.source, row.deed) else row_among rows name
 
-abbrev pub row_of : List ℕ → Option (Source × Deed)
+abbrev pub row_of : List ℕ → Option (Source × Action)
 row_of name = row_among commands name
 
 -- an origin, and the words after its own
@@ -251,7 +251,7 @@ origin_in sources.Number (table ∷ number ∷ size ∷ rest) = with_rest rest (
 origin_in source names = None
 
 -- those of the work are all that are left: OUT CERT, or none
-abbrev pub work_in : Deed → List (List ℕ) → Option Work
+abbrev pub work_in : Action → List (List ℕ) → Option Work
 work_in deeds.Minify (out ∷ cert ∷ []) = Some (minifies out cert)
 work_in deeds.Check (out ∷ cert ∷ []) = Some (checks out cert)
 work_in deeds.Show [] = Some shows
@@ -264,12 +264,12 @@ abbrev pub with_work : Origin → Option Work → Option Command
 with_work origin None = None
 with_work origin (Some work) = Some (origin, work)
 
-abbrev pub with_origin : Deed → Option (Origin × List (List ℕ)) → Option Command
+abbrev pub with_origin : Action → Option (Origin × List (List ℕ)) → Option Command
 with_origin deed None = None
 with_origin deed (Some o) = with_work o.0 (work_in deed o.1)
 
 -- the command of a row, by the words after its name
-abbrev pub command_by : Option (Source × Deed) → List (List ℕ) → Option Command
+abbrev pub command_by : Option (Source × Action) → List (List ℕ) → Option Command
 command_by None names = None
 command_by (Some row) names = with_origin row.1 (origin_in row.0 names)
 

@@ -17,7 +17,7 @@ pub enum Source {
 
 /// What a command does with its tree.
 #[derive(Clone, Copy, PartialEq, Eq)]
-pub enum Deed {
+pub enum Action {
     /// It is written shortest, with its certificate.
     Minify,
     /// A text of it and its certificate are checked.
@@ -33,27 +33,27 @@ pub enum Deed {
 }
 
 /// The command of this name, if there is one. A further command is a row here.
-pub fn row_of(name: &str) -> Option<(Source, Deed)>
+pub fn row_of(name: &str) -> Option<(Source, Action)>
     ensures { result ≡ spec.row_of name.now }
 {
     if name == "minify" {
-        Some((Source::Page, Deed::Minify))
+        Some((Source::Page, Action::Minify))
     } else if name == "check" {
-        Some((Source::Page, Deed::Check))
+        Some((Source::Page, Action::Check))
     } else if name == "fragment" {
-        Some((Source::Fragment, Deed::Minify))
+        Some((Source::Fragment, Action::Minify))
     } else if name == "checkfragment" {
-        Some((Source::Fragment, Deed::Check))
+        Some((Source::Fragment, Action::Check))
     } else if name == "tree" {
-        Some((Source::Page, Deed::Show))
+        Some((Source::Page, Action::Show))
     } else if name == "json" {
-        Some((Source::Page, Deed::TellJson))
+        Some((Source::Page, Action::TellJson))
     } else if name == "explain" {
-        Some((Source::Page, Deed::Explain))
+        Some((Source::Page, Action::Explain))
     } else if name == "minifyjson" {
-        Some((Source::Json, Deed::Minify))
+        Some((Source::Json, Action::Minify))
     } else if name == "measure" {
-        Some((Source::Number, Deed::Measure))
+        Some((Source::Number, Action::Measure))
     } else {
         None
     }

@@ -6,7 +6,7 @@ ghost use Rattle.hm_words.specs.Words.{dashed};
 ghost use Rattle.hm_words.specs.Answers as answers;
 
 use crate::writing::Writing;
-use hm_base::{TreeOptions, Word};
+use hm_base::{OwnedText, TreeOptions};
 
 /// What a flag sets.
 #[derive(Clone, Copy, PartialEq, Eq)]
@@ -160,21 +160,21 @@ fn is_one_of(word: &str, flags: &[Flag]) -> bool
 }
 
 /// Whether no word is empty.
-fn are_filled(words: &[Word]) -> bool
+fn are_filled(words: &[OwnedText]) -> bool
     ensures { result ≡ spec.are_filled words.now }
 {
     words.iter().all(|word| !word.text.as_str().is_empty())
 }
 
 /// Whether each flag is one of these.
-fn are_known(words: &[Word], flags: &[Flag]) -> bool
+fn are_known(words: &[OwnedText], flags: &[Flag]) -> bool
     ensures { result ≡ answers.are_known flags.now words.now }
 {
     words.iter().all(|word| !is_flag(word.text.as_str()) || is_one_of(word.text.as_str(), flags))
 }
 
 /// Whether the word of the flag of this name stands at most once.
-fn is_single(words: &[Word], name: &str) -> bool
+fn is_single(words: &[OwnedText], name: &str) -> bool
     ensures { result ≡ spec.is_single words.now (dashed name.now) }
 {
     words
@@ -185,7 +185,7 @@ fn is_single(words: &[Word], name: &str) -> bool
 }
 
 /// Whether each of these stands at most once.
-fn are_single(words: &[Word], flags: &[Flag]) -> bool
+fn are_single(words: &[OwnedText], flags: &[Flag]) -> bool
     ensures { result ≡ answers.are_single flags.now words.now }
 {
     flags.iter().all(|flag| is_single(words, flag.name))
@@ -194,7 +194,7 @@ fn are_single(words: &[Word], flags: &[Flag]) -> bool
 /// Whether no word is empty, and each that begins with `-` is one of the flags, which stands at most once. A command
 /// line of the flags and names takes such words, and no others have a meaning.
 #[tactic(auto, unfolding(crate::specs::Words::flags))]
-pub fn are_readable(words: &[Word]) -> bool
+pub fn are_readable(words: &[OwnedText]) -> bool
     ensures { result ≡ answers.are_readable words.now }
 {
     are_filled(words) && are_known(words, &FLAGS) && are_single(words, &FLAGS)

@@ -10,7 +10,7 @@ mod usage;
 mod words;
 mod writing;
 
-pub use commands::{Deed, Source, row_of};
+pub use commands::{Action, Source, row_of};
 pub use flags::{Choices, FLAGS, Flag, Setting};
 pub use notices::{Notice, notice_in};
 pub use usage::usage_fault;

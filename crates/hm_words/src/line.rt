@@ -12,7 +12,7 @@ ghost use Rattle.hm_words.specs.Words.{dashed, flags, has, names_in};
 use crate::flags::{FLAGS, Flag};
 use clap::error::ErrorKind;
 use clap::{Arg, ArgAction, ArgMatches, Command, Error};
-use hm_base::Word;
+use hm_base::OwnedText;
 use std::alloc::{AllocError, Global};
 
 /// A name that stands for ever, for as long as it is needed.
@@ -72,7 +72,7 @@ fn line<'t>(alloc: Global) -> Result<Command<'t>, AllocError>
 }
 
 /// What clap finds in words that can be read. The only error is lack of memory.
-pub fn parse<'w>(alloc: Global, words: &'w [Word]) -> Result<ArgMatches<'w>, Error>
+pub fn parse<'w>(alloc: Global, words: &'w [OwnedText]) -> Result<ArgMatches<'w>, Error>
     requires readable { answers.are_readable words.now ≡ true }
     ensures ok { IfOk result (IsMatched words.now) }
     ensures memory { IfErr result (λ error. kind_of error ≡ ErrorKind.OutOfMemory) }

@@ -2,7 +2,7 @@
 ghost use Rattle.std.specs.Prelude.{◌≡◌, IfSome, None};
 ghost use Rattle.hm_words.specs.Words as spec;
 
-use hm_base::Word;
+use hm_base::OwnedText;
 
 /// What the program says of itself.
 #[derive(Clone, Copy, PartialEq, Eq)]
@@ -35,7 +35,7 @@ fn notice_of(word: &str) -> Option<Notice>
 }
 
 /// The notice that words ask for: a single word of the table of notices.
-pub fn notice_in(words: &[Word]) -> Option<Notice>
+pub fn notice_in(words: &[OwnedText]) -> Option<Notice>
     ensures notice { result ≡ spec.notice_in words.now }
     ensures unasked { IfSome result (λ _. spec.asked words.now ≡ None) }
 {

@@ -1,7 +1,7 @@
 //! Why words have no meaning, told to who called the program. Nothing is proved of it: what has a meaning is decided by `Asked::read`.
-use crate::commands::{Deed, Source, row_of};
+use crate::commands::{Action, Source, row_of};
 use crate::flags::FLAGS;
-use hm_base::Word;
+use hm_base::OwnedText;
 use std::alloc::{AllocError, Global};
 
 /// Whether a word begins with `-`.
@@ -17,7 +17,7 @@ fn is_known(word: &str) -> bool {
 }
 
 /// How often a word stands.
-fn count(words: &[Word], wanted: &str) -> usize {
+fn count(words: &[OwnedText], wanted: &str) -> usize {
     words
         .iter()
         .filter(|word| word.text.as_str() == wanted)
@@ -25,7 +25,7 @@ fn count(words: &[Word], wanted: &str) -> usize {
 }
 
 /// What is wrong with the flags, if anything.
-fn flag_fault(alloc: Global, words: &[Word]) -> Result<Option<String>, AllocError> {
+fn flag_fault(alloc: Global, words: &[OwnedText]) -> Result<Option<String>, AllocError> {
     for word in words {
         let text = word.text.as_str();
         if text.is_empty() {
@@ -45,10 +45,10 @@ fn flag_fault(alloc: Global, words: &[Word]) -> Result<Option<String>, AllocErro
 }
 
 /// The words of a command after its name, as the help has them, and how many they are.
-fn wanted(source: Source, deed: Deed) -> (&'static str, usize) {
+fn wanted(source: Source, deed: Action) -> (&'static str, usize) {
     match (source, deed) {
         (Source::Number, _) => ("TABLE NUMBER SIZE", 3),
-        (_, Deed::Minify | Deed::Check) => ("TABLE PAGE OUT CERT", 4),
+        (_, Action::Minify | Action::Check) => ("TABLE PAGE OUT CERT", 4),
         _ => ("TABLE PAGE", 2),
     }
 }
@@ -56,10 +56,10 @@ fn wanted(source: Source, deed: Deed) -> (&'static str, usize) {
 /// What is wrong with the words after a command's name.
 fn command_fault(
     alloc: Global,
-    words: &[Word],
+    words: &[OwnedText],
     name: &str,
     source: Source,
-    deed: Deed,
+    deed: Action,
     count_after: usize,
 ) -> Result<String, AllocError> {
     let (names, count_wanted) = wanted(source, deed);
@@ -84,7 +84,7 @@ fn command_fault(
 }
 
 /// Why words have no meaning: the word that has none, or what is missing.
-pub fn usage_fault(alloc: Global, words: &[Word]) -> Result<String, AllocError> {
+pub fn usage_fault(alloc: Global, words: &[OwnedText]) -> Result<String, AllocError> {
     if let Some(fault) = flag_fault(alloc, words)? {
         return Ok(fault);
     }

@@ -8,13 +8,13 @@ ghost use Rattle.hm_words.specs.Answers as answers;
 ghost use Rattle.hm_words.specs.Answers.{command_of, origin_of, request_of, work_of};
 ghost use Rattle.hm_words.specs.Matches.{IsMatched};
 
-use crate::commands::{Deed, Source, row_of};
+use crate::commands::{Action, Source, row_of};
 use crate::flags::{Choices, FLAGS, Flag, are_readable};
 use crate::line::{is_given, names_of, parse};
 use crate::numbers::number_in;
 use crate::writing::Writing;
 use clap::ArgMatches;
-use hm_base::{SpellRules, TreeOptions, Word};
+use hm_base::{OwnedText, SpellRules, TreeOptions};
 use std::alloc::Global;
 
 /// The most blocks of a page that is made.
@@ -78,7 +78,7 @@ pub enum WordsFault {
     /// The words have no meaning.
     Usage,
     /// Memory was refused.
-    Memory,
+    OutOfMemory,
 }
 
 /// Whether a table is one that is no file: `none`, or `html`.
@@ -241,31 +241,31 @@ fn origin_in<'m, 'w>(source: Source, names: &'m [&'w str]) -> Option<(Origin<'w>
 }
 
 /// The work of these words, which are all that are left.
-fn work_in<'w>(deed: Deed, names: &[&'w str]) -> Option<Work<'w>>
+fn work_in<'w>(deed: Action, names: &[&'w str]) -> Option<Work<'w>>
     ensures { option_map work_of result ≡ spec.work_in deed (texts names.now) }
 {
     match deed {
-        Deed::Minify => match names {
+        Action::Minify => match names {
             [out, cert] => Some(Work::Minify { out, cert }),
             _ => None,
         },
-        Deed::Check => match names {
+        Action::Check => match names {
             [out, cert] => Some(Work::Check { out, cert }),
             _ => None,
         },
-        Deed::Show => match names {
+        Action::Show => match names {
             [] => Some(Work::Show),
             _ => None,
         },
-        Deed::TellJson => match names {
+        Action::TellJson => match names {
             [] => Some(Work::TellJson),
             _ => None,
         },
-        Deed::Explain => match names {
+        Action::Explain => match names {
             [] => Some(Work::Explain),
             _ => None,
         },
-        Deed::Measure => match names {
+        Action::Measure => match names {
             [] => Some(Work::Measure),
             _ => None,
         },
@@ -273,7 +273,7 @@ fn work_in<'w>(deed: Deed, names: &[&'w str]) -> Option<Work<'w>>
 }
 
 /// The command of a row, by the words after its name.
-fn command_by<'w>(source: Source, deed: Deed, names: &[&'w str]) -> Option<(Origin<'w>, Work<'w>)>
+fn command_by<'w>(source: Source, deed: Action, names: &[&'w str]) -> Option<(Origin<'w>, Work<'w>)>
     ensures { option_map command_of result ≡ spec.command_by (Some (source, deed)) (texts names.now) }
 {
     let (origin, rest) = origin_in(source, names)?;
@@ -368,7 +368,7 @@ fn asked_in<'w>(matches: &ArgMatches<'w>) -> Option<Asked<'w>>
 impl<'w> Asked<'w> {
     /// What the words ask for. Memory may be refused before the words are found to have no meaning.
     #[tactic(auto, using(crate::proofs::Meanings::not_asked))]
-    pub fn read(alloc: Global, words: &'w [Word]) -> Result<Asked<'w>, WordsFault>
+    pub fn read(alloc: Global, words: &'w [OwnedText]) -> Result<Asked<'w>, WordsFault>
         ensures ok { IfOk result (λ a. spec.asked words.now ≡ Some (request_of a)) }
         ensures apart { IfOk result (λ a. spec.is_apart (origin_of a.origin) (work_of a.work) ≡ true) }
         ensures usage { result ≡ Err WordsFault.Usage → spec.asked words.now ≡ None }
@@ -377,7 +377,7 @@ impl<'w> Asked<'w> {
             return Err(WordsFault::Usage);
         }
         let Ok(matches) = parse(alloc, words) else {
-            return Err(WordsFault::Memory);
+            return Err(WordsFault::OutOfMemory);
         };
         asked_in(&matches).ok_or(WordsFault::Usage)
     }

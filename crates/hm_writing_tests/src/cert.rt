@@ -2,10 +2,10 @@ ghost use Rattle.std.specs.Prelude.{◌<◌, IsTrue};
 ghost use Rattle.hm_cert.specs.Places.{IsRowPlace};
 
 use crate::made::LOOSE_RULES as RULES;
-use crate::rows::{behind, behind_value, cut, expect, is_value};
-use hm_base::{Format, Memory, SpellRules};
+use crate::rows::{after, after_value, cut, expect, is_value};
+use hm_base::{Format, OutOfMemory, SpellRules};
 use hm_cert::{
-    CLOSED, Certificate, CertificateFault, Prices, ReversedText, RowPlace, WrittenRows, add_each,
+    Certificate, CertificateFault, INFINITE, Prices, ReversedText, RowPlace, WrittenRows, add_each,
     write_certificate,
 };
 use std::alloc::Global;
@@ -53,11 +53,11 @@ const RAISED_ROWS: &str =
 
 /// The price that a word tells. `-` is a closed one.
 fn price_of(word: &str) -> u64 {
-    word.parse::<u64>().unwrap_or(CLOSED)
+    word.parse::<u64>().unwrap_or(INFINITE)
 }
 
 /// Puts the prices of a row into a list, in place of what was there.
-fn put_row(row: &mut Vec<u64>, words: &str) -> Result<(), Memory> {
+fn put_row(row: &mut Vec<u64>, words: &str) -> Result<(), OutOfMemory> {
     row.clear();
     for word in words.split(' ') {
         row.push(price_of(word))?;
@@ -66,7 +66,7 @@ fn put_row(row: &mut Vec<u64>, words: &str) -> Result<(), Memory> {
 }
 
 /// Appends rows, with bars between them.
-fn push_rows(prices: &mut Prices, row: &mut Vec<u64>, rows: &str) -> Result<(), Memory> {
+fn push_rows(prices: &mut Prices, row: &mut Vec<u64>, rows: &str) -> Result<(), OutOfMemory> {
     for words in rows.split('|') {
         put_row(row, words)?;
         prices.push_row(row.as_slice())?;
@@ -75,7 +75,7 @@ fn push_rows(prices: &mut Prices, row: &mut Vec<u64>, rows: &str) -> Result<(), 
 }
 
 /// The prices of these rows.
-fn prices_of(alloc: Global, rows: &str) -> Result<Prices, Memory> {
+fn prices_of(alloc: Global, rows: &str) -> Result<Prices, OutOfMemory> {
     let mut row = Vec::new(alloc);
     let mut prices = Prices::new(alloc);
     push_rows(&mut prices, &mut row, rows)?;
@@ -88,7 +88,7 @@ fn reversed(
     format: Format,
     rules: SpellRules,
     prices: &Prices,
-) -> Result<Vec<u8>, Memory> {
+) -> Result<Vec<u8>, OutOfMemory> {
     let mut text = ReversedText::new(alloc);
     for k in (0..prices.rows()).rev() {
         text.put_line(prices.row(k))?;
@@ -119,7 +119,7 @@ fn is_written(alloc: Global, format: Format, prices: &Prices, text: &[u8]) -> bo
 fn are_written(alloc: Global, format: Format, rows: &str, text: &str) -> bool {
     match prices_of(alloc, rows) {
         Ok(prices) => is_written(alloc, format, &prices, text.as_bytes()),
-        Err(Memory) => false,
+        Err(OutOfMemory) => false,
     }
 }
 
@@ -128,33 +128,37 @@ fn written(rt: HostRuntime) {
     let alloc = rt.alloc();
     expect(
         &rt,
-        are_written(alloc, Format::One, EVERY_ROWS, EVERY_LAYER),
+        are_written(alloc, Format::Full, EVERY_ROWS, EVERY_LAYER),
         EVERY_LAYER,
     );
     expect(
         &rt,
-        are_written(alloc, Format::Two, CHOICES_ROWS, CHOICES),
+        are_written(alloc, Format::Compact, CHOICES_ROWS, CHOICES),
         CHOICES,
     );
     expect(
         &rt,
-        are_written(alloc, Format::Three, SPARSE_ROWS, SPARSE),
+        are_written(alloc, Format::Sparse, SPARSE_ROWS, SPARSE),
         SPARSE,
     );
-    expect(&rt, are_written(alloc, Format::Two, WIDE_ROWS, WIDE), WIDE);
     expect(
         &rt,
-        are_written(alloc, Format::Two, RAISED_ROWS, RAISED),
+        are_written(alloc, Format::Compact, WIDE_ROWS, WIDE),
+        WIDE,
+    );
+    expect(
+        &rt,
+        are_written(alloc, Format::Compact, RAISED_ROWS, RAISED),
         RAISED,
     );
 }
 
 /// Whether a price that is added to those of a row is, but to a closed one.
 fn is_added(alloc: Global) -> bool {
-    match Vec::from_array(alloc, [99, 9_999, CLOSED]) {
+    match Vec::from_array(alloc, [99, 9_999, INFINITE]) {
         Ok(mut row) => {
             add_each(&mut row, 1);
-            row.as_slice() == [100, 10_000, CLOSED].as_slice()
+            row.as_slice() == [100, 10_000, INFINITE].as_slice()
         }
         Err(_) => false,
     }
@@ -166,7 +170,7 @@ fn added(rt: HostRuntime) {
 }
 
 /// Appends two long rows and a short one.
-fn push_long_rows(prices: &mut Prices) -> Result<(), Memory> {
+fn push_long_rows(prices: &mut Prices) -> Result<(), OutOfMemory> {
     prices.push_row(&[123_456; 300])?;
     prices.push_row(&[123_455; 256])?;
     prices.push_row(&[99; 2])
@@ -174,9 +178,9 @@ fn push_long_rows(prices: &mut Prices) -> Result<(), Memory> {
 
 /// Whether a certificate of these prices is long, and the same written from its front and from its end.
 fn is_long(alloc: Global, prices: &Prices) -> bool {
-    match write_certificate(alloc, Format::Two, RULES, prices) {
+    match write_certificate(alloc, Format::Compact, RULES, prices) {
         Ok(text) => {
-            let is_written = is_written(alloc, Format::Two, prices, text.as_slice());
+            let is_written = is_written(alloc, Format::Compact, prices, text.as_slice());
             is_written & (text.len() > 3_900)
         }
         Err(_) => false,
@@ -196,11 +200,11 @@ fn long_rows(rt: HostRuntime) {
 }
 
 /// What is wanted after a price. `-` is a closed one.
-fn behind_price<'w>(wanted: &'w str, price: u64) -> &'w str {
-    if price == CLOSED {
-        behind(wanted, "-")
+fn after_price<'w>(wanted: &'w str, price: u64) -> &'w str {
+    if price == INFINITE {
+        after(wanted, "-")
     } else {
-        behind_value(wanted, &price)
+        after_value(wanted, &price)
     }
 }
 
@@ -209,7 +213,7 @@ fn is_row(row: &[u64], wanted: &str) -> bool {
     let mut rest = wanted;
     let mut mark = "";
     for price in row {
-        rest = behind_price(behind(rest, mark), *price);
+        rest = after_price(after(rest, mark), *price);
         mark = " ";
     }
     rest.is_empty()
@@ -260,16 +264,16 @@ fn read(rt: HostRuntime) {
     let alloc = rt.alloc();
     expect(
         &rt,
-        is_read(alloc, Format::One, EVERY_ROWS, EVERY_LAYER),
+        is_read(alloc, Format::Full, EVERY_ROWS, EVERY_LAYER),
         EVERY_LAYER,
     );
-    expect(&rt, is_read(alloc, Format::Two, WIDE_ROWS, WIDE), WIDE);
+    expect(&rt, is_read(alloc, Format::Compact, WIDE_ROWS, WIDE), WIDE);
     expect(
         &rt,
-        is_read(alloc, Format::Three, SPARSE_ROWS, SPARSE),
+        is_read(alloc, Format::Sparse, SPARSE_ROWS, SPARSE),
         SPARSE,
     );
-    expect(&rt, is_read(alloc, Format::Two, NEAR_ROWS, NEAR), NEAR);
+    expect(&rt, is_read(alloc, Format::Compact, NEAR_ROWS, NEAR), NEAR);
 }
 
 /// Whether these rules are those of a certificate whose output is tight, of ASCII and in a frame.

@@ -2,7 +2,7 @@ ghost use Rattle.hm_refs.specs.Tables.{TableView};
 ghost use Rattle.hm_edges.specs.States.{HasNodes};
 
 use crate::made::{NONE, TIGHT_RULES as RULES, TWO};
-use crate::rows::{behind, behind_value, expect};
+use crate::rows::{after, after_value, expect};
 use hm_edges::{Edge, Pending, Piece, State, TextKind, Unit, Where, find_edges, piece_len};
 use hm_refs::{Node, Table};
 use std::alloc::{AllocError, Global};
@@ -18,7 +18,7 @@ fn are_same(edges: &[Edge], wanted: &str) -> bool {
     let mut rest = wanted;
     for edge in edges {
         let shown = (edge.piece, edge.to.at, edge.to.pending);
-        rest = behind(behind_value(rest, &shown), "\n");
+        rest = after(after_value(rest, &shown), "\n");
     }
     rest.is_empty()
 }

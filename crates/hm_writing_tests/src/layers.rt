@@ -1,40 +1,40 @@
 #![tactic(auto, using(hm_tree::proofs::RoomLemmas::room))]
 
 use crate::made::{NONE, TIGHT_RULES as RULES, TWO, attributes};
-use crate::rows::{behind, behind_value, expect, is_value};
-use hm_base::{Format, Memory};
+use crate::rows::{after, after_value, expect, is_value};
+use hm_base::{Format, OutOfMemory};
 use hm_graph::Graph;
 use hm_refs::Table;
 use hm_tree::Tree;
 use std::alloc::Global;
 
 /// A text outside of elements.
-fn text_alone(alloc: Global, text: &str) -> Result<Tree, Memory> {
+fn text_alone(alloc: Global, text: &str) -> Result<Tree, OutOfMemory> {
     if text.len() > 100 {
-        return Err(Memory);
+        return Err(OutOfMemory);
     }
     let mut maker = Tree::maker(alloc);
     maker.text(text, false)?;
     if maker.depth() > 0 {
-        return Err(Memory);
+        return Err(OutOfMemory);
     }
     Ok(maker.finish())
 }
 
 /// An empty element with an attribute.
-fn element_alone(alloc: Global, name: &str, attr: &str, value: &str) -> Result<Tree, Memory> {
+fn element_alone(alloc: Global, name: &str, attr: &str, value: &str) -> Result<Tree, OutOfMemory> {
     if name.len() > 100 || attr.len() > 100 || value.len() > 100 {
-        return Err(Memory);
+        return Err(OutOfMemory);
     }
     let attrs = attributes(alloc, attr, value)?;
     let mut maker = Tree::maker(alloc);
     maker.start(name, false, attrs)?;
     if maker.depth() == 0 {
-        return Err(Memory);
+        return Err(OutOfMemory);
     }
     maker.end()?;
     if maker.depth() > 0 {
-        return Err(Memory);
+        return Err(OutOfMemory);
     }
     Ok(maker.finish())
 }
@@ -52,16 +52,16 @@ fn is_like(graph: &Graph, wanted: &str) -> bool {
         } else {
             step.hops(0).len()
         };
-        rest = behind_value(rest, &(k, step.width(), first, step.is_forced()));
+        rest = after_value(rest, &(k, step.width(), first, step.is_forced()));
     }
-    is_value(behind(rest, " "), &graph.last())
+    is_value(after(rest, " "), &graph.last())
 }
 
 /// Whether the graph of a tree is like this with a table.
 fn graph_is_like(alloc: Global, table: &Table, tree: &Tree, format: Format, wanted: &str) -> bool {
     match Graph::of(alloc, tree, table, RULES, format) {
         Ok(graph) => is_like(&graph, wanted),
-        Err(Memory) => false,
+        Err(OutOfMemory) => false,
     }
 }
 
@@ -77,7 +77,7 @@ fn has_steps(alloc: Global, names: &str, tree: &Tree, format: Format, wanted: &s
 fn text_has_steps(alloc: Global, names: &str, text: &str, format: Format, wanted: &str) -> bool {
     match text_alone(alloc, text) {
         Ok(tree) => has_steps(alloc, names, &tree, format, wanted),
-        Err(Memory) => false,
+        Err(OutOfMemory) => false,
     }
 }
 
@@ -96,13 +96,13 @@ const SPARSE: &str = "(0, 1, 2, false)(1, 2, 1, true) 1";
 #[test]
 fn texts(rt: HostRuntime) {
     let alloc = rt.alloc();
-    let less_than = text_has_steps(alloc, NONE, "a<b", Format::Two, LESS_THAN);
+    let less_than = text_has_steps(alloc, NONE, "a<b", Format::Compact, LESS_THAN);
     expect(&rt, less_than, "a<b");
-    let pair = text_has_steps(alloc, TWO, "x\u{338}", Format::Two, PAIR);
+    let pair = text_has_steps(alloc, TWO, "x\u{338}", Format::Compact, PAIR);
     expect(&rt, pair, "a pair");
-    let no_pair = text_has_steps(alloc, TWO, "xx", Format::Two, NO_PAIR);
+    let no_pair = text_has_steps(alloc, TWO, "xx", Format::Compact, NO_PAIR);
     expect(&rt, no_pair, "no pair");
-    let sparse = text_has_steps(alloc, TWO, "x\u{338}", Format::Three, SPARSE);
+    let sparse = text_has_steps(alloc, TWO, "x\u{338}", Format::Sparse, SPARSE);
     expect(&rt, sparse, "sparse");
 }
 
@@ -113,8 +113,8 @@ const VALUE: &str =
 /// Whether the element has these steps.
 fn value_has_steps(alloc: Global, wanted: &str) -> bool {
     match element_alone(alloc, "p", "id", "x") {
-        Ok(tree) => has_steps(alloc, NONE, &tree, Format::Two, wanted),
-        Err(Memory) => false,
+        Ok(tree) => has_steps(alloc, NONE, &tree, Format::Compact, wanted),
+        Err(OutOfMemory) => false,
     }
 }
 

@@ -5,7 +5,7 @@ ghost use Rattle.std.specs.Prelude.{◌+◌, ◌≤◌, length, IfOk, IfSome};
 ghost use Rattle.hm_base.specs.Walks.{attributes_size};
 ghost use Rattle.hm_elements.specs.Settled.{Settled};
 
-use hm_base::{Memory, PAGE_LIMIT, SourceText, SpellRules};
+use hm_base::{OutOfMemory, PAGE_LIMIT, SourceText, SpellRules};
 use hm_build::parse;
 use hm_refs::Table;
 use hm_tree::{Attrs, Tree};
@@ -30,7 +30,7 @@ pub(crate) const LOOSE_RULES: SpellRules = SpellRules {
     ..TIGHT_RULES
 };
 
-pub(crate) fn attributes(alloc: Global, name: &str, value: &str) -> Result<Attrs, Memory>
+pub(crate) fn attributes(alloc: Global, name: &str, value: &str) -> Result<Attrs, OutOfMemory>
     ensures { IfOk result (λ attrs. attributes_size attrs ≤ length name.now + length value.now) }
 {
     let mut attrs = Attrs::new(alloc);

@@ -1,9 +1,9 @@
 use crate::made::{LOOSE_RULES, NONE, TIGHT_RULES, TWO, tree_of};
 use crate::rows::{cut, expect};
-use hm_base::{Format, Memory, SpellRules};
+use hm_base::{Format, OutOfMemory, SpellRules};
 use hm_order::{AttrCost, attr_cost, best_last, reorder};
-use hm_plan::minify_tree;
 use hm_refs::Table;
+use hm_shortest::minify_tree;
 use hm_tree::Tree;
 use std::alloc::Global;
 
@@ -30,9 +30,9 @@ const ASCII_RULES: SpellRules = SpellRules {
 
 /// Whether this is the shortest text of a tree.
 fn is_text(alloc: Global, table: &Table, rules: SpellRules, tree: &Tree, wanted: &str) -> bool {
-    match minify_tree(alloc, tree, table, rules, Format::Two) {
+    match minify_tree(alloc, tree, table, rules, Format::Compact) {
         Ok(made) => made.out.as_slice() == wanted.as_bytes(),
-        Err(Memory) => false,
+        Err(OutOfMemory) => false,
     }
 }
 
@@ -139,7 +139,7 @@ const ID: AttrCost = AttrCost { inner: 5, last: 4 };
 fn has_cost(alloc: Global, table: &Table, name: &str, value: &str, wanted: AttrCost) -> bool {
     match attr_cost(alloc, table, TIGHT_RULES, name, value, false) {
         Ok(cost) => cost == wanted,
-        Err(Memory) => false,
+        Err(OutOfMemory) => false,
     }
 }
 
@@ -150,7 +150,7 @@ fn have_costs(alloc: Global) -> bool {
             let title = has_cost(alloc, &table, "title", "x y", TITLE);
             title & has_cost(alloc, &table, "id", "a", ID)
         }
-        Err(Memory) => false,
+        Err(OutOfMemory) => false,
     }
 }
 

@@ -1,5 +1,5 @@
 use crate::rows::{cut, expect, is_value};
-use hm_gen::page_of;
+use hm_measure_page::page_of;
 use std::alloc::Global;
 
 /// Whether the page of number 0 and size 1 is this text.

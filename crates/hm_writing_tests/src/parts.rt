@@ -5,29 +5,29 @@ ghost use Rattle.hm_base.specs.Walks.{attributes_size, path_after, walk_size};
 ghost use Rattle.hm_tree.specs.Trees.{last_agrees};
 
 use crate::made::{TIGHT_RULES as RULES, attributes};
-use crate::rows::{behind, behind_value, cut, expect};
-use hm_base::Memory;
-use hm_parts::{Part, find_parts};
+use crate::rows::{after, after_value, cut, expect};
+use hm_base::OutOfMemory;
+use hm_event_parts::{Part, find_parts};
 use hm_tree::{Attrs, Maker, Tree};
 use std::alloc::Global;
 use std::process::Abort;
 
 /// No attribute where the text is empty, else the one that it tells as `name=value`.
-fn attributes_of(alloc: Global, text: &str) -> Result<Attrs, Memory>
+fn attributes_of(alloc: Global, text: &str) -> Result<Attrs, OutOfMemory>
     ensures { IfOk result (λ attrs. attributes_size attrs ≤ 200) }
 {
     let (name, value) = cut(text, "=");
     if text.is_empty() {
         Ok(Attrs::new(alloc))
     } else if name.len() > 100 || value.len() > 100 {
-        Err(Memory)
+        Err(OutOfMemory)
     } else {
         attributes(alloc, name, value)
     }
 }
 
 /// Starts the element of a name, with the attribute that stands after a space, if any.
-fn start(alloc: Global, maker: &mut Maker, call: &str, foreign: bool) -> Result<(), Memory>
+fn start(alloc: Global, maker: &mut Maker, call: &str, foreign: bool) -> Result<(), OutOfMemory>
     requires events { length maker.old + length (path_after [] maker.old) + 2 < 2 ^ 29 }
     requires bytes { walk_size maker.old + 300 < 2 ^ 29 }
     ensures events { OnOk result (length maker.new + length (path_after [] maker.new) ≤ length maker.old + length (path_after [] maker.old) + 2) }
@@ -36,12 +36,12 @@ fn start(alloc: Global, maker: &mut Maker, call: &str, foreign: bool) -> Result<
 {
     let (name, attribute) = call.split_once(' ').unwrap_or((call, ""));
     if name.len() > 100 {
-        return Err(Memory);
+        return Err(OutOfMemory);
     }
     maker.start(name, foreign, attributes_of(alloc, attribute)?)
 }
 
-fn text(maker: &mut Maker, text: &str) -> Result<(), Memory>
+fn text(maker: &mut Maker, text: &str) -> Result<(), OutOfMemory>
     requires events { length maker.old + length (path_after [] maker.old) + 2 < 2 ^ 29 }
     requires bytes { walk_size maker.old + 300 < 2 ^ 29 }
     requires plain { last_agrees maker.old false ≡ true }
@@ -50,24 +50,24 @@ fn text(maker: &mut Maker, text: &str) -> Result<(), Memory>
     ensures plain { OnOk result (last_agrees maker.new false ≡ true) }
 {
     if text.len() > 100 {
-        return Err(Memory);
+        return Err(OutOfMemory);
     }
     maker.text(text, false)
 }
 
-fn end(maker: &mut Maker) -> Result<(), Memory>
+fn end(maker: &mut Maker) -> Result<(), OutOfMemory>
     ensures events { OnOk result (length maker.new + length (path_after [] maker.new) ≤ length maker.old + length (path_after [] maker.old) + 2) }
     ensures bytes { OnOk result (walk_size maker.new ≤ walk_size maker.old + 300) }
     ensures plain { OnOk result (last_agrees maker.new false ≡ true) }
 {
     if maker.depth() == 0 {
-        return Err(Memory);
+        return Err(OutOfMemory);
     }
     maker.end()
 }
 
 /// Makes a call: `start` or `svg`, the start of an element of HTML or SVG, with its name and maybe an attribute; `text`; `end`.
-fn take(alloc: Global, maker: &mut Maker, call: &str) -> Result<(), Memory>
+fn take(alloc: Global, maker: &mut Maker, call: &str) -> Result<(), OutOfMemory>
     requires events { length maker.old + length (path_after [] maker.old) + 2 < 2 ^ 29 }
     requires bytes { walk_size maker.old + 300 < 2 ^ 29 }
     requires plain { last_agrees maker.old false ≡ true }
@@ -81,12 +81,12 @@ fn take(alloc: Global, maker: &mut Maker, call: &str) -> Result<(), Memory>
         "svg" => start(alloc, maker, rest, true),
         "text" => text(maker, rest),
         "end" => end(maker),
-        _ => Err(Memory),
+        _ => Err(OutOfMemory),
     }
 }
 
 /// The tree of at most 50 calls, with a bar after each.
-fn made(alloc: Global, calls: &str) -> Result<Tree, Memory> {
+fn made(alloc: Global, calls: &str) -> Result<Tree, OutOfMemory> {
     let mut maker = Tree::maker(alloc);
     let mut left = calls;
     for count in 0..50u32 {
@@ -97,16 +97,16 @@ fn made(alloc: Global, calls: &str) -> Result<Tree, Memory> {
         }
     }
     if maker.depth() > 0 || !left.is_empty() {
-        return Err(Memory);
+        return Err(OutOfMemory);
     }
     Ok(maker.finish())
 }
 
 /// What is wanted after these parts, each in a line.
-fn behind_parts<'w>(wanted: &'w str, parts: &[Part<'_>]) -> &'w str {
+fn after_parts<'w>(wanted: &'w str, parts: &[Part<'_>]) -> &'w str {
     let mut rest = wanted;
     for part in parts {
-        rest = behind(behind_value(rest, part), "\n");
+        rest = after(after_value(rest, part), "\n");
     }
     rest
 }
@@ -117,8 +117,8 @@ fn has_parts(alloc: Global, tree: &Tree, wanted: &str) -> bool {
     let mut rest = wanted;
     for i in 0..tree.len() {
         match find_parts(tree, RULES, i, &mut parts) {
-            Ok(()) => rest = behind_parts(rest, &parts),
-            Err(Memory) => rest = "?",
+            Ok(()) => rest = after_parts(rest, &parts),
+            Err(OutOfMemory) => rest = "?",
         }
     }
     rest.is_empty()
@@ -128,7 +128,7 @@ fn has_parts(alloc: Global, tree: &Tree, wanted: &str) -> bool {
 fn has_made_parts(alloc: Global, calls: &str, wanted: &str) -> bool {
     match made(alloc, calls) {
         Ok(tree) => has_parts(alloc, &tree, wanted),
-        Err(Memory) => false,
+        Err(OutOfMemory) => false,
     }
 }
 

@@ -11,7 +11,7 @@ pub(crate) fn cut<'t>(line: &'t str, mark: &str) -> (&'t str, &'t str) {
 }
 
 /// What is wanted after a text.
-pub(crate) fn behind<'w>(wanted: &'w str, text: &str) -> &'w str {
+pub(crate) fn after<'w>(wanted: &'w str, text: &str) -> &'w str {
     wanted.strip_prefix(text).unwrap_or(OTHER)
 }
 
@@ -23,13 +23,13 @@ struct Wanted<'w> {
 
 impl Write for Wanted<'_> {
     fn write_str(&mut self, text: &str) -> fmt::Result {
-        self.rest = behind(self.rest, text);
+        self.rest = after(self.rest, text);
         Ok(())
     }
 }
 
 /// What is wanted after a value that is printed by `{:?}`.
-pub(crate) fn behind_value<'w>(wanted: &'w str, value: &impl Debug) -> &'w str {
+pub(crate) fn after_value<'w>(wanted: &'w str, value: &impl Debug) -> &'w str {
     let mut left = Wanted { rest: wanted };
     match write!(left, "{value:?}") {
         Ok(()) => left.rest,
@@ -39,7 +39,7 @@ pub(crate) fn behind_value<'w>(wanted: &'w str, value: &impl Debug) -> &'w str {
 
 /// Whether a value is printed so by `{:?}`.
 pub(crate) fn is_value(wanted: &str, value: &impl Debug) -> bool {
-    behind_value(wanted, value).is_empty()
+    after_value(wanted, value).is_empty()
 }
 
 /// Asserts that a row holds. A failure is told with the row.

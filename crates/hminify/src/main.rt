@@ -3,7 +3,7 @@
 //! SIZE`, and flags; or `help` or `version` alone. What went wrong is told on standard error.
 #![tactic(auto)]
 
-use hm_base::{CERTIFICATE_LIMIT, Word};
+use hm_base::{CERTIFICATE_LIMIT, OwnedText};
 use hm_minify::{Status, run};
 use hm_store::{FileStore, WriteSink};
 use hm_words::usage_fault;
@@ -16,24 +16,24 @@ use std::{env, io};
 /// Why there are no words.
 enum NoWords {
     Unknown,
-    Memory,
+    OutOfMemory,
 }
 
 /// The words after the program's name.
-fn words<R: Env + AllocGlobal>(rt: &R) -> Result<Vec<Word>, NoWords> {
+fn words<R: Env + AllocGlobal>(rt: &R) -> Result<Vec<OwnedText>, NoWords> {
     let mut words = Vec::new(rt.alloc());
     match env::args(rt) {
         Ok(args) => {
             for text in args.skip(1) {
-                match words.push(Word { text }) {
+                match words.push(OwnedText { text }) {
                     Ok(()) => {}
-                    Err(_) => return Err(NoWords::Memory),
+                    Err(_) => return Err(NoWords::OutOfMemory),
                 }
             }
             Ok(words)
         }
         Err(error) => match error.kind() {
-            ErrorKind::OutOfMemory => Err(NoWords::Memory),
+            ErrorKind::OutOfMemory => Err(NoWords::OutOfMemory),
             _ => Err(NoWords::Unknown),
         },
     }
@@ -79,7 +79,7 @@ fn is_of_flags(begin: Option<[u8; 4]>) -> bool {
 }
 
 /// Whether the words ask for a certificate that is written.
-fn writes(words: &[Word]) -> bool {
+fn writes(words: &[OwnedText]) -> bool {
     match words
         .iter()
         .find(|word| !word.text.as_str().starts_with('-'))
@@ -92,7 +92,7 @@ fn writes(words: &[Word]) -> bool {
 /// That the certificate that was written is larger than `check` reads.
 fn size_fault(
     alloc: Global,
-    words: &[Word],
+    words: &[OwnedText],
     name: Option<&str>,
     bytes: u64,
 ) -> Result<Option<String>, AllocError> {
@@ -143,6 +143,6 @@ fn main(rt: HostRuntime) -> ExitCode {
             let _ = eprintln!(rt; "hminify: a word isn't UTF-8");
             ExitCode::from(2)
         }
-        Err(NoWords::Memory) => ExitCode::from(7),
+        Err(NoWords::OutOfMemory) => ExitCode::from(7),
     }
 }

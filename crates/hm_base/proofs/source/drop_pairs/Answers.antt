@@ -3,7 +3,7 @@ use Rattle.std.proofs.Math.Seq.{drop-cons, take-suc-set}
 use Rattle.std.proofs.Math.ListN.{drop_of_length-le}
 use Rattle.std.proofs.lemmas.List.{append-nil, drop-set-lt, length-set}
 use Rattle.std.proofs.lemmas.Bool.Decides.{nat_tests}
-use Rattle.hm_base.specs.Places.{pairs_behind}
+use Rattle.hm_base.specs.Places.{pairs_after}
 use Rattle.hm_base.proofs.Dropped.{skipped, moved}
 use Rattle.hm_base.proofs.source.drop_pairs.Goals as goal
 use Rattle.hm_base.proofs.source.drop_pairs.Goals.{then-n-pair, else-n-pair}
@@ -25,20 +25,20 @@ left_is i j pairs m e =
 
 -- a pair that is kept is put after the others
 kept_on : (n kept i j : ℕ) (pairs : List ℕ) → kept ≤ i → i < length pairs → j ≡ get_or pairs i j → n ≤ j
-    → take (kept + 1) (set pairs kept (j - n)) ++ pairs_behind n (drop (i + 1) (set pairs kept (j - n))) ≡ take kept pairs ++ pairs_behind n (drop i pairs)
+    → take (kept + 1) (set pairs kept (j - n)) ++ pairs_after n (drop (i + 1) (set pairs kept (j - n))) ≡ take kept pairs ++ pairs_after n (drop i pairs)
 kept_on n kept i j pairs l m e h =
     let next : kept + 1 ≡ suc kept = omega arith in
     let front : take (kept + 1) (set pairs kept (j - n)) ≡ take kept pairs ++ (j - n) ∷ [] = ap (λ k. take k (set pairs kept (j - n))) next ∙ take-suc-set pairs kept (j - n) (omega arith) in
-    let behind : pairs_behind n (drop (i + 1) (set pairs kept (j - n))) ≡ pairs_behind n (drop (i + 1) pairs) = ap (pairs_behind n) (drop-set-lt (i + 1) pairs kept (j - n) (omega arith)) in
-    let whole : (j - n) ∷ pairs_behind n (drop (i + 1) pairs) ≡ pairs_behind n (drop i pairs) = sym (ap (pairs_behind n) (left_is i j pairs m e) ∙ moved n j (drop (i + 1) pairs) h) in
-    ap (λ s. s ++ pairs_behind n (drop (i + 1) (set pairs kept (j - n)))) front
-    ∙ ap (λ s. (take kept pairs ++ (j - n) ∷ []) ++ s) behind
-    ∙ append_assoc (take kept pairs) ((j - n) ∷ []) (pairs_behind n (drop (i + 1) pairs))
+    let after : pairs_after n (drop (i + 1) (set pairs kept (j - n))) ≡ pairs_after n (drop (i + 1) pairs) = ap (pairs_after n) (drop-set-lt (i + 1) pairs kept (j - n) (omega arith)) in
+    let whole : (j - n) ∷ pairs_after n (drop (i + 1) pairs) ≡ pairs_after n (drop i pairs) = sym (ap (pairs_after n) (left_is i j pairs m e) ∙ moved n j (drop (i + 1) pairs) h) in
+    ap (λ s. s ++ pairs_after n (drop (i + 1) (set pairs kept (j - n)))) front
+    ∙ ap (λ s. (take kept pairs ++ (j - n) ∷ []) ++ s) after
+    ∙ append_assoc (take kept pairs) ((j - n) ∷ []) (pairs_after n (drop (i + 1) pairs))
     ∙ ap (λ s. take kept pairs ++ s) whole
 
 skipped_on : (n kept i j : ℕ) (pairs : List ℕ) → i < length pairs → j ≡ get_or pairs i j → j < n
-    → take kept pairs ++ pairs_behind n (drop (i + 1) pairs) ≡ take kept pairs ++ pairs_behind n (drop i pairs)
-skipped_on n kept i j pairs m e h = ap (λ s. take kept pairs ++ s) (sym (ap (pairs_behind n) (left_is i j pairs m e) ∙ skipped n j (drop (i + 1) pairs) h))
+    → take kept pairs ++ pairs_after n (drop (i + 1) pairs) ≡ take kept pairs ++ pairs_after n (drop i pairs)
+skipped_on n kept i j pairs m e h = ap (λ s. take kept pairs ++ s) (sym (ap (pairs_after n) (left_is i j pairs m e) ∙ skipped n j (drop (i + 1) pairs) h))
 
 pub loop-i-preserved : goal.loop-i-preserved
 loop-i-preserved c =
@@ -61,4 +61,4 @@ pub returns : goal.returns
 returns c =
     let i = c.loop-i.invariant in
     let last : drop c.loop-i.i c.loop-i.pairs.items ≡ [] = drop_of_length-le c.loop-i.pairs.items (omega (arith, c.loop-i-test.false, i.len, c.len-i-end.ensures)) in
-    c.truncate.ensures.items ∙ sym (append-nil (take c.loop-i.kept c.loop-i.pairs.items)) ∙ ap (λ s. take c.loop-i.kept c.loop-i.pairs.items ++ pairs_behind c.args.n s) (sym last) ∙ i.same
+    c.truncate.ensures.items ∙ sym (append-nil (take c.loop-i.kept c.loop-i.pairs.items)) ∙ ap (λ s. take c.loop-i.kept c.loop-i.pairs.items ++ pairs_after c.args.n s) (sym last) ∙ i.same

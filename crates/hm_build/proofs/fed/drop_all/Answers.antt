@@ -1,7 +1,7 @@
 use Rattle.std.proofs.Common.{◌≡◌, ◌++◌, length, take, ap, subst, arith}
 use Rattle.std.proofs.lemmas.List.{take_all}
 use Rattle.hm_base.specs.Source.{Source}
-use Rattle.hm_feed.specs.Pieces.{HasFed}
+use Rattle.hm_decoder.specs.Pieces.{HasFed}
 use Rattle.hm_build.proofs.fed.drop_all.Goals as goal
 
 pub returns-clause-fed : goal.returns-clause-fed

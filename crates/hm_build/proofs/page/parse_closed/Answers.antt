@@ -2,7 +2,7 @@ use Rattle.std.proofs.Common.{◌≡◌, false, sym, ap, subst, ◌∙◌}
 use Rattle.std.specs.Prelude.{IfErr}
 use Rattle.std.proofs.lemmas.Result.{IfOk-weaker}
 use Rattle.hm_elements.specs.Settled.{Settled}
-use Rattle.hm_construction_laws.specs.Closing.{closed_of_source, is_behind_body}
+use Rattle.hm_construction_laws.specs.Closing.{closed_of_source, is_after_body}
 use Rattle.hm_construction_laws.specs.Trees.{built, tree_of_source}
 use Rattle.hm_insertion.specs.Building.{Building}
 use Rattle.hm_build.specs.Parsing.{IsRefusedAs, closed_left, left_tree, reads}
@@ -23,7 +23,7 @@ returns-in-Ok-clause-settled c =
 
 pub returns-in-Ok-clause-closed : goal.returns-in-Ok-clause-closed
 returns-in-Ok-clause-closed c =
-    let open_still : is_behind_body c.in-Ok.builder.state.insertion_mode ≡ false = ap (λ (b : Building). is_behind_body b.state.insertion_mode) c.in-Ok.ensures in
+    let open_still : is_after_body c.in-Ok.builder.state.insertion_mode ≡ false = ap (λ (b : Building). is_after_body b.state.insertion_mode) c.in-Ok.ensures in
     IfOk-weaker c.parse_rest.result (λ parsed. closed_left (reads c.args.table.now.entries c.args.text.now) c.in-Ok.builder ≡ parsed.1) (λ parsed. closed_of_source c.args.table.now.entries c.args.text.now ≡ parsed.1)
     (λ parsed e. closed_in_whole c.args.table.now.entries c.args.text.now c.in-Ok.builder parsed.1 c.in-Ok.ensures e) (c.parse_rest.ensures.closed open_still)
 

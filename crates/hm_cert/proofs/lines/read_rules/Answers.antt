@@ -8,15 +8,15 @@ returns-then-not-is_empty c =
     let t : Taken c.args.line.now c.in_ok-rest.rest.now rules c.take_flag-omit.result.1.now c.take_flag-unquote.result.1.now c.take_flag-tight.result.1.now c.take_flag-ascii.result.1.now c.take_flag-frame.result.1.now = record {
       front = c.in_ok-rest.ensures;
       omit = c.take_flag-omit.ensures.flag;
-      behind_omit = c.take_flag-omit.ensures.rest;
+      rest_after_omit = c.take_flag-omit.ensures.rest;
       unquote = c.take_flag-unquote.ensures.flag;
-      behind_unquote = c.take_flag-unquote.ensures.rest;
+      rest_after_unquote = c.take_flag-unquote.ensures.rest;
       tight = c.take_flag-tight.ensures.flag;
-      behind_tight = c.take_flag-tight.ensures.rest;
+      rest_after_tight = c.take_flag-tight.ensures.rest;
       ascii = c.take_flag-ascii.ensures.flag;
-      behind_ascii = c.take_flag-ascii.ensures.rest;
+      rest_after_ascii = c.take_flag-ascii.ensures.rest;
       frame = c.take_flag-frame.ensures.flag;
-      behind_frame = c.take_flag-frame.ensures.rest;
+      rest_after_frame = c.take_flag-frame.ensures.rest;
     } in
     taken_part _ _ _ _ _ _ _ _ t c.if-not-is_empty.ensures
 
@@ -26,14 +26,14 @@ returns c =
     let t : Taken c.args.line.now c.in_ok-rest.rest.now rules c.take_flag-omit.result.1.now c.take_flag-unquote.result.1.now c.take_flag-tight.result.1.now c.take_flag-ascii.result.1.now c.take_flag-frame.result.1.now = record {
       front = c.in_ok-rest.ensures;
       omit = c.take_flag-omit.ensures.flag;
-      behind_omit = c.take_flag-omit.ensures.rest;
+      rest_after_omit = c.take_flag-omit.ensures.rest;
       unquote = c.take_flag-unquote.ensures.flag;
-      behind_unquote = c.take_flag-unquote.ensures.rest;
+      rest_after_unquote = c.take_flag-unquote.ensures.rest;
       tight = c.take_flag-tight.ensures.flag;
-      behind_tight = c.take_flag-tight.ensures.rest;
+      rest_after_tight = c.take_flag-tight.ensures.rest;
       ascii = c.take_flag-ascii.ensures.flag;
-      behind_ascii = c.take_flag-ascii.ensures.rest;
+      rest_after_ascii = c.take_flag-ascii.ensures.rest;
       frame = c.take_flag-frame.ensures.flag;
-      behind_frame = c.take_flag-frame.ensures.rest;
+      rest_after_frame = c.take_flag-frame.ensures.rest;
     } in
     taken_all _ _ _ _ _ _ _ _ t c.if-not-is_empty.ensures

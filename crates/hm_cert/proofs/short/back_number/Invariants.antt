@@ -1,10 +1,10 @@
 use Rattle.std.proofs.Common.{◌≡◌, ◌-◌, length}
-use Rattle.hm_cert.proofs.BackNumbers.{IsBehind}
+use Rattle.hm_cert.proofs.BackNumbers.{AreDigitsAfter}
 use Rattle.hm_cert.proofs.short.back_number.Given as goal
 
 abbrev pub invariant-loop-at : goal.invariant-loop-at
 invariant-loop-at l = record {
-  behind : IsBehind l.text l.at l.number l.power;
+  after : AreDigitsAfter l.text l.at l.number l.power;
   low : l.low ≡ length l.text - 18;
 }
 

@@ -11,7 +11,7 @@ pub loop-hop-preserved : goal.loop-hop-preserved
 loop-hop-preserved c = record {
   fits = omega (arith, c.min-best.type_inv);
   best =
-      best_turn c.loop-hop.best c.price_over.result c.min-best.result (map told c.args.behind.now) c.hop-item.result c.args.hops.now c.loop-hop.hop-index c.loop-hop-test.true c.hop-item.is
+      best_turn c.loop-hop.best c.price_over.result c.min-best.result (map told c.args.next_row.now) c.hop-item.result c.args.hops.now c.loop-hop.hop-index c.loop-hop-test.true c.hop-item.is
       c.min-best.ensures c.loop-hop.invariant.fits (omega (arith, c.price_over.type_inv)) c.price_over.ensures
       ∙ c.loop-hop.invariant.best;
 }

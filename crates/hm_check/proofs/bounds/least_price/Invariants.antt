@@ -7,5 +7,5 @@ use Rattle.hm_check.proofs.bounds.least_price.Given as goal
 abbrev pub invariant-loop-hop : goal.invariant-loop-hop
 invariant-loop-hop l = record {
   fits : l.best ≤ 18446744073709551615;
-  best : lesser (told l.best) (best_price (map told l.behind) (drop l.hop-index l.hops)) ≡ best_price (map told l.behind) l.hops;
+  best : lesser (told l.best) (best_price (map told l.next_row) (drop l.hop-index l.hops)) ≡ best_price (map told l.next_row) l.hops;
 }

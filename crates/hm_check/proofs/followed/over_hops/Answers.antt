@@ -1,6 +1,6 @@
 use Rattle.std.proofs.Common.{arith}
 use Rattle.hm_edges.specs.Pieces.{piece_text}
-use Rattle.hm_parts.specs.Own.{own_text}
+use Rattle.hm_event_parts.specs.UnitText.{own_text}
 use Rattle.hm_check.proofs.Following.{only_over}
 use Rattle.hm_check.proofs.followed.over_hops.Goals as goal
 

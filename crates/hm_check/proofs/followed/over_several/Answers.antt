@@ -1,7 +1,7 @@
 use Rattle.std.proofs.Common.{sym, subst}
 use Rattle.std.specs.Option.{IfSome}
 use Rattle.hm_edges.specs.Pieces.{HasName, piece_text}
-use Rattle.hm_parts.specs.Own.{own_text}
+use Rattle.hm_event_parts.specs.UnitText.{own_text}
 use Rattle.hm_check.specs.Following.{IsOver, LeadsTo}
 use Rattle.hm_check.proofs.Following.{either_over, hop_over, named_at}
 use Rattle.hm_check.proofs.followed.over_several.Goals.{then-may_begin+in_ok-over_one, else-may_begin}

@@ -1,6 +1,6 @@
 use Rattle.std.specs.Option.{IfSome}
 use Rattle.hm_edges.specs.Pieces.{piece_text}
-use Rattle.hm_parts.specs.Own.{own_text}
+use Rattle.hm_event_parts.specs.UnitText.{own_text}
 use Rattle.hm_check.specs.Following.{IsOver}
 use Rattle.hm_check.proofs.followed.over_several.Given as goal
 

@@ -11,8 +11,8 @@ loop-layer-init c = record {
 
 pub take_layer-requires-clause-swept : goal.take_layer-requires-clause-swept
 take_layer-requires-clause-swept c =
-    let next : c.pass_still-behind.result.layer ≡ c.back-front.result.layer + 1 = omega (arith, c.back-front.ensures.layer, c.pass_still-behind.ensures.first c.loop-layer-test.true) in
-    subst (λ k. IsSwept c.args.graph.now c.args.prices.now k c.pass_still-behind.new.self) next c.pass_still-behind.ensures.swept
+    let next : c.pass_still-after.result.layer ≡ c.back-front.result.layer + 1 = omega (arith, c.back-front.ensures.layer, c.pass_still-after.ensures.first c.loop-layer-test.true) in
+    subst (λ k. IsSwept c.args.graph.now c.args.prices.now k c.pass_still-after.new.self) next c.pass_still-after.ensures.swept
 
 pub returns : goal.returns
 returns c =

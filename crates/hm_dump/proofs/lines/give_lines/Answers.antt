@@ -21,7 +21,7 @@ loop-i-preserved g c =
     let e = event_of c.event-event.result in
     let depth = c.loop-i.invariant.0 in
     let line = ap (λ d. lines_from [] (take i w) ++ line_of d e) depth ∙ lines_from-take w i e c.event-event.ensures in (
-      c.depth_behind-depth.ensures.depth (path_after [] (take i w)) depth ∙ ap length (sym (path_after-take w i e c.event-event.ensures)),
-      omega (arith, c.depth_behind-depth.ensures.bound, c.loop-i.invariant.1),
+      c.depth_after_event-depth.ensures.depth (path_after [] (take i w)) depth ∙ ap length (sym (path_after-take w i e c.event-event.ensures)),
+      omega (arith, c.depth_after_event-depth.ensures.bound, c.loop-i.invariant.1),
       subst (Gives _ _ _ _ _ _) line (Gives-then c.loop-i.invariant.2 c.give_line.ensures),
     )

@@ -22,7 +22,7 @@ returns-in-None c = λ u own.
 
 pub returns-in-Some : goal.returns-in-Some
 returns-in-Some c = λ u own.
-    adds_as _ _ _ _ _ _ _ (ap (map (kept_at (where_of c.args.from.at))) (itself_stands c.args.table.now.entries (rules_with c.args.table.now.entries c.args.ascii) (spot_of c.args.spot) c.args.c (pending_of c.args.table.now c.args.from.pending) (pending_of c.args.table.now c.in-Some.behind) (sym c.may_stand.ensures ∙ c.if-not-may_stand.false)
+    adds_as _ _ _ _ _ _ _ (ap (map (kept_at (where_of c.args.from.at))) (itself_stands c.args.table.now.entries (rules_with c.args.table.now.entries c.args.ascii) (spot_of c.args.spot) c.args.c (pending_of c.args.table.now c.args.from.pending) (pending_of c.args.table.now c.in-Some.after) (sym c.may_stand.ensures ∙ c.if-not-may_stand.false)
     (c.in-Some.ensures.run ∙ ap (run c.args.table.now.entries (spot_of c.args.spot) (Some (pending_of c.args.table.now c.args.from.pending))) (c.as_bytes-bytes.ensures.value ∙ c.encode_utf8.ensures.value))))
     (adds_as _ _ _ _ _ _ _ (ap₂ (λ b p. edge b (where_of c.args.from.at) p ∷ []) own c.itself_to-to.ensures.to)
     (adds_one _ _ _ _ _ _ c.add.ensures (record { name = tt; nodes = c.itself_to-to.ensures.nodes })))

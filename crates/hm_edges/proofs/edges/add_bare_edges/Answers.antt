@@ -8,5 +8,5 @@ use Rattle.hm_edges.proofs.edges.add_bare_edges.Goals as goal
 
 pub returns : goal.returns
 returns c = λ v n.
-    adds_as _ _ _ _ _ _ _ (ap (λ b. edge b states.behind_name states.nothing ∷ []) (gap_is c.args.tight _ (where_of c.args.from.at) n c.has_gap-gap.ensures))
+    adds_as _ _ _ _ _ _ _ (ap (λ b. edge b states.after_name states.nothing ∷ []) (gap_is c.args.tight _ (where_of c.args.from.at) n c.has_gap-gap.ensures))
     (adds_one _ _ _ _ _ _ c.add.ensures (record { name = tt; nodes = tt }))

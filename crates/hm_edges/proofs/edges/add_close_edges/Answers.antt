@@ -12,5 +12,5 @@ returns-in_err-add c = λ v. adds_stopped _ _ _ _ _ _ _ _ _ c.in_err-add.was c.f
 pub returns : goal.returns
 returns c = λ v.
     adds_then _ _ _ _ _ _ _ _ _ _ c.in_ok-add.was (adds_one _ _ _ _ _ _ c.add.ensures (record { name = tt; nodes = tt }))
-    (adds_as _ _ _ _ _ _ _ (ap (λ b. cond c.args.closes (edge b states.self_closed states.nothing ∷ []) []) (close_is _ (where_of c.args.from.at) c.is_behind_unquoted-space.ensures))
+    (adds_as _ _ _ _ _ _ _ (ap (λ b. cond c.args.closes (edge b states.self_closed states.nothing ∷ []) []) (close_is _ (where_of c.args.from.at) c.is_after_unquoted-space.ensures))
     (adds_if _ _ _ _ _ _ _ c.add_if.ensures (λ _. record { name = tt; nodes = tt })))

@@ -4,10 +4,10 @@ use Rattle.hm_graph_laws.specs.Steps.{unless}
 use Rattle.hm_edges.proofs.steps.step.Goals as goal
 
 pub returns-in-Hash-clause-step : goal.returns-in-Hash-clause-step
-returns-in-Hash-clause-step c = rw c.in-Hash.is ((c.behind_hash.ensures c.args.table.now).0)
+returns-in-Hash-clause-step c = rw c.in-Hash.is ((c.after_hash.ensures c.args.table.now).0)
 
 pub returns-in-Hash-clause-nodes : goal.returns-in-Hash-clause-nodes
-returns-in-Hash-clause-nodes c = (c.behind_hash.ensures c.args.table.now).1
+returns-in-Hash-clause-nodes c = (c.after_hash.ensures c.args.table.now).1
 
 pub returns-in-LessThan-clause-step : goal.returns-in-LessThan-clause-step
 returns-in-LessThan-clause-step c = rw c.in-LessThan.is ((c.unless.ensures c.args.table.now).0 ∙ ap (λ b. unless b nothing) c.opens.ensures)

@@ -2,7 +2,7 @@ use Rattle.std.proofs.Common.{arith}
 use Rattle.hm_base.specs.Walks.{Attribute}
 use Rattle.hm_tree.specs.Views.{attributes_shown}
 use Rattle.hm_graph_laws.specs.Units.{attribute_units}
-use Rattle.hm_parts.proofs.Sizes.{attribute_within}
+use Rattle.hm_event_parts.proofs.Sizes.{attribute_within}
 use Rattle.hm_graph.proofs.Going.{attribute_added, attributes_all, goes_none}
 use Rattle.hm_graph.proofs.along.add_attributes.Goals as goal
 

@@ -1,5 +1,5 @@
 use Rattle.std.proofs.Common.{[], sym, subst}
-use Rattle.hm_parts.specs.Found.{found_units}
+use Rattle.hm_event_parts.specs.Found.{found_units}
 use Rattle.hm_graph.specs.Going.{Goes}
 use Rattle.hm_graph.proofs.Going.{goes_none}
 use Rattle.hm_graph.proofs.along.add_found.Goals as goal

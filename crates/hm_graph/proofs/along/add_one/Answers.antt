@@ -1,6 +1,6 @@
 use Rattle.std.proofs.lemmas.Result.{on_ok_weaker}
-use Rattle.hm_parts.proofs.OwnBytes.{own_bytes_kept, stands_for}
-use Rattle.hm_parts.specs.Parts.{unit_with}
+use Rattle.hm_event_parts.proofs.OwnBytes.{own_bytes_kept, stands_for}
+use Rattle.hm_event_parts.specs.Parts.{unit_with}
 use Rattle.hm_graph.proofs.along.add_one.Goals as goal
 
 pub returns : goal.returns

@@ -2,7 +2,7 @@ use Rattle.std.proofs.Common.{[], refl, sym, subst}
 use Rattle.std.proofs.lemmas.Result.{on_ok_weaker}
 use Rattle.hm_edges.specs.Units as edges
 use Rattle.hm_graph_laws.specs.Units as units
-use Rattle.hm_parts.specs.Parts.{IsPart, comment_bytes, part_units}
+use Rattle.hm_event_parts.specs.Parts.{IsPart, comment_bytes, part_units}
 use Rattle.hm_graph.specs.Going.{Goes}
 use Rattle.hm_graph.proofs.Parts.{comment_length}
 use Rattle.hm_graph.proofs.along.add_part.Goals as goal

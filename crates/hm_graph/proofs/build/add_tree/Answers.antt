@@ -1,5 +1,5 @@
 use Rattle.std.proofs.Common.{◌≡◌, ◌<◌, length, arith}
-use Rattle.hm_parts.specs.Found.{found_units}
+use Rattle.hm_event_parts.specs.Found.{found_units}
 use Rattle.hm_graph.proofs.Going.{events_all, events_begin, events_next}
 use Rattle.hm_graph.proofs.build.add_tree.Goals as goal
 

@@ -9,4 +9,4 @@ returns c = λ before is.
     let step : Step = map (λ hops. hops.items) c.args.layer.now.hops.items in
     let longer : map (λ hops. hops.items) c.push.new.self.items ≡ step ++ c.in_ok-hops.hops.items ∷ [] =
     ap (map (λ hops. hops.items)) c.in_ok-push.ensures.items ∙ map-append (λ hops. hops.items) c.args.layer.now.hops.items (c.in_ok-hops.hops ∷ []) in
-    subst (IsLayer c.args.table.now c.args.rules c.args.unit (before ++ c.args.from ∷ []) c.hops_from.new.behind.items) (sym longer) (c.in_ok-hops.ensures before step is)
+    subst (IsLayer c.args.table.now c.args.rules c.args.unit (before ++ c.args.from ∷ []) c.hops_from.new.after.items) (sym longer) (c.in_ok-hops.ensures before step is)

@@ -15,8 +15,8 @@ loop-state-preserved c =
     let before : List State = take c.loop-state.state-index c.args.from.now in
     let more : take (c.loop-state.state-index + 1) c.args.from.now ≡ before ++ c.state-item.result ∷ [] =
     take_more c.args.from.now c.loop-state.state-index c.state-item.result c.loop-state-test.true ∙ ap (λ s. before ++ s ∷ []) (sym c.state-item.is) in
-    subst (λ from. IsLayer c.args.table.now c.args.rules c.args.unit from c.add_state.new.layer.behind.items (map (λ hops. hops.items) c.add_state.new.layer.hops.items)) (sym more) (c.in_ok-add_state.ensures before c.loop-state.invariant)
+    subst (λ from. IsLayer c.args.table.now c.args.rules c.args.unit from c.add_state.new.layer.after.items (map (λ hops. hops.items) c.add_state.new.layer.hops.items)) (sym more) (c.in_ok-add_state.ensures before c.loop-state.invariant)
 
 pub returns : goal.returns
 returns c =
-    subst (λ from. IsLayer c.args.table.now c.args.rules c.args.unit from c.loop-state.layer.behind.items (map (λ hops. hops.items) c.loop-state.layer.hops.items)) (take_all c.loop-state.state-index c.args.from.now c.loop-state-test.false) c.loop-state.invariant
+    subst (λ from. IsLayer c.args.table.now c.args.rules c.args.unit from c.loop-state.layer.after.items (map (λ hops. hops.items) c.loop-state.layer.hops.items)) (take_all c.loop-state.state-index c.args.from.now c.loop-state-test.false) c.loop-state.invariant

@@ -9,8 +9,8 @@ use Rattle.hm_graph.proofs.layer.hops_from.Goals as goal
 pub returns : goal.returns
 returns c =
     let v = c.args.table.now in
-    let front = c.args.behind.now.items in
-    let now = c.hops_of.new.behind.items in
+    let front = c.args.after.now.items in
+    let now = c.hops_of.new.after.items in
     IfOk-weaker c.hops_of.result (λ hops. AreHops v c.args.unit c.as_slice.result.now front now hops.items)
     (λ hops. (before : List State) (step : Step) → IsLayer v c.args.rules c.args.unit before front step → IsLayer v c.args.rules c.args.unit (before ++ c.args.from ∷ []) now (step ++ hops.items ∷ []))
     (λ hops are before step is.

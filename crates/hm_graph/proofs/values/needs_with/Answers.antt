@@ -1,10 +1,10 @@
 use Rattle.std.proofs.Common.{◌∙◌, ◌==◌, ◌&&◌, ◌≡◌, ap, chars, slice_get, sym}
 use Rattle.hm_edges.specs.Units.{needs_quotes}
-use Rattle.hm_graph.specs.Told.{joined}
+use Rattle.hm_graph.specs.EntityFacts.{joined}
 use Rattle.hm_graph.specs.Values.{need_with}
 use Rattle.hm_graph.proofs.Characters.{first_of}
 use Rattle.hm_graph.proofs.ValueBytes.{needs_kept}
-use Rattle.hm_graph_laws.specs.Forms.{is_dear}
+use Rattle.hm_graph_laws.specs.Forms.{is_costly}
 use Rattle.hm_graph_laws.specs.Units.{next_of}
 use Rattle.hm_graph.proofs.values.needs_with.Goals as goal
 
@@ -20,6 +20,6 @@ returns c =
       double = (c.need_with.ensures ∙ ap (need_with t (λ d. d == 34) c.args.needs.double c.args.previous c.args.c) next) i;
       single = (c.need_with-2.ensures ∙ ap (need_with t (λ d. d == 39) c.args.needs.single c.args.previous c.args.c) next) i;
       other =
-          (c.need_with-3.ensures ∙ ap (λ k. joined c.args.needs.other k (k && is_dear t c.args.previous c.args.c c.next-next.result)) c.needs_quotes.ensures
+          (c.need_with-3.ensures ∙ ap (λ k. joined c.args.needs.other k (k && is_costly t c.args.previous c.args.c c.next-next.result)) c.needs_quotes.ensures
           ∙ ap (need_with t needs_quotes c.args.needs.other c.args.previous c.args.c) next) i;
     }

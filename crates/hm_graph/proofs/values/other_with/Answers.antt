@@ -1,10 +1,10 @@
 use Rattle.std.proofs.Common.{◌≡◌, ◌∙◌, ◌&&◌, ap, chars, slice_get, sym}
 use Rattle.hm_edges.specs.Units.{needs_quotes}
-use Rattle.hm_graph.specs.Told.{joined}
+use Rattle.hm_graph.specs.EntityFacts.{joined}
 use Rattle.hm_graph.specs.Values.{need_with}
 use Rattle.hm_graph.proofs.Characters.{first_of}
 use Rattle.hm_graph.proofs.ValueBytes.{need_same}
-use Rattle.hm_graph_laws.specs.Forms.{is_dear}
+use Rattle.hm_graph_laws.specs.Forms.{is_costly}
 use Rattle.hm_graph_laws.specs.Units.{next_of}
 use Rattle.hm_graph.proofs.values.other_with.Goals as goal
 
@@ -17,5 +17,5 @@ returns c =
     let rest = c.args.rest.now in
     let next : c.next-next.result ≡ next_of (chars rest) = c.next-next.ensures.steps.2 ∙ ap (λ r. slice_get (chars r) 0) c.chars.ensures.rest ∙ first_of (chars rest) in
     c.need_with.ensures
-    ∙ ap (λ k. joined c.args.need k (k && is_dear t c.args.previous c.args.c c.next-next.result)) (sym (sym c.needs_quotes.ensures ∙ c.if-not-needs_quotes.false))
+    ∙ ap (λ k. joined c.args.need k (k && is_costly t c.args.previous c.args.c c.next-next.result)) (sym (sym c.needs_quotes.ensures ∙ c.if-not-needs_quotes.false))
     ∙ ap (need_with t needs_quotes c.args.need c.args.previous c.args.c) next

@@ -4,7 +4,7 @@ use Rattle.hm_store.specs.Files.{IsMissing}
 use Rattle.hm_words.specs.Answers.{origin_of}
 use Rattle.hm_words.specs.Words.{is_table_word}
 use Rattle.hm_input.specs.Loads.{IsTableOf, NoTable}
-use Rattle.hm_input.proofs.Origins.{input_behind, no_origin_table, none_behind, page_cause, table_cause}
+use Rattle.hm_input.proofs.Origins.{input_after_reading, no_origin_table, none_follows, page_cause, table_cause}
 use Rattle.hm_input.proofs.input.load_input.Goals as goal
 
 err_is : {T E : Type 0} {x y : E} (r : Result T E) → r ≡ Err x → r ≡ Err y → x ≡ y
@@ -14,13 +14,13 @@ err_is (Err z) e f = cc
 pub returns-in-Ok-load_rewritten-clause-ok : goal.returns-in-Ok-load_rewritten-clause-ok
 returns-in-Ok-load_rewritten-clause-ok g c =
     let told = g.S.Store.files c.args.store.now in
-    input_behind told _ (origin_of c.args.origin.now) c.args.options.now c.in-Ok.table.entries c.in-Ok-load_rewritten.tree c.in-Ok-load_rewritten.bytes c.in-Ok.ensures.same c.requires.apart
+    input_after_reading told _ (origin_of c.args.origin.now) c.args.options.now c.in-Ok.table.entries c.in-Ok-load_rewritten.tree c.in-Ok-load_rewritten.bytes c.in-Ok.ensures.same c.requires.apart
     (subst (λ name. IsTableOf told name (Ok c.in-Ok.table.entries)) c.table_of.ensures c.in-Ok.ensures.ok) c.in-Ok-load_rewritten.ensures.ok
 
 pub returns-in-Err-load_rewritten-clause-err : goal.returns-in-Err-load_rewritten-clause-err
 returns-in-Err-load_rewritten-clause-err g c =
     let told = g.S.Store.files c.args.store.now in
-    none_behind told _ (origin_of c.args.origin.now) c.args.options.now c.in-Ok.table.entries c.in-Err-load_rewritten.unread c.in-Ok.ensures.same c.requires.apart
+    none_follows told _ (origin_of c.args.origin.now) c.args.options.now c.in-Ok.table.entries c.in-Err-load_rewritten.unread c.in-Ok.ensures.same c.requires.apart
     (subst (λ name. IsTableOf told name (Ok c.in-Ok.table.entries)) c.table_of.ensures c.in-Ok.ensures.ok) c.in-Err-load_rewritten.ensures.err
 
 pub returns-in-Err-clause-err : goal.returns-in-Err-clause-err

@@ -1,5 +1,5 @@
 use Rattle.std.proofs.Common.{sym, subst}
-use Rattle.hm_gen.specs.Pages.{page as made_page}
+use Rattle.hm_measure_page.specs.Pages.{page as made_page}
 use Rattle.hm_input.specs.Loads.{NoTreeOf}
 use Rattle.hm_input.proofs.Generated.{no_tree_of_text, no_tree_without_text, tree_of_text}
 use Rattle.hm_input.proofs.loads.make_tree.Goals as goal

@@ -1,5 +1,5 @@
 use Rattle.std.proofs.Common.{[], ◌∷◌, ◌++◌, false, subst}
-use Rattle.hm_settle.specs.Answers.{elements_of}
+use Rattle.hm_open_elements.specs.Answers.{elements_of}
 use Rattle.hm_tree.specs.Trees.{HasRoom}
 use Rattle.hm_construction_laws.specs.Steps.{starts}
 use Rattle.hm_base.specs.Walks.{start}

@@ -1,6 +1,6 @@
 use Rattle.std.proofs.Common.{◌∷◌, [], map, take}
 use Rattle.hm_base.specs.Walks.{path_after, start}
-use Rattle.hm_settle.specs.Answers.{elements_of}
+use Rattle.hm_open_elements.specs.Answers.{elements_of}
 use Rattle.hm_construction_laws.specs.Steps.{end_event, starts}
 use Rattle.hm_insertion.proofs.Opened.{room_made}
 use Rattle.hm_insertion.proofs.start_tag.move_and_start.Goals as goal

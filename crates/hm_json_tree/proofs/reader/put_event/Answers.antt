@@ -3,7 +3,7 @@ use Rattle.hm_base.specs.Walks.{text}
 use Rattle.hm_elements.specs.Paths.{is_in_raw}
 use Rattle.hm_tree.specs.Trees.{HasRoom}
 use Rattle.hm_json_tree.specs.Forms.{may_join}
-use Rattle.hm_json_tree.specs.declared.form.Form.TheVariants.{Text}
+use Rattle.hm_json_tree.specs.declared.form.JsonEvent.TheVariants.{Text}
 use Rattle.hm_json_tree.proofs.Taken.{text_joins, text_pushed, raw_agrees}
 use Rattle.hm_json_tree.proofs.reader.put_event.Goals as goal
 

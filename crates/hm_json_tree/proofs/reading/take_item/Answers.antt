@@ -1,7 +1,7 @@
 use Rattle.std.proofs.Common.{◌+◌, ◌++◌, ◌∷◌, [], length, sym, ap, ◌∙◌, arith}
 use Rattle.std.proofs.lemmas.Result.{err_from_is_err_and}
 use Rattle.std.proofs.lemmas.List.{length_push}
-use Rattle.hm_base.specs.Walks.{path_behind}
+use Rattle.hm_base.specs.Walks.{path_after_event}
 use Rattle.hm_json_tree.specs.Forms.{told}
 use Rattle.hm_json_tree.specs.Progress.{fault_walk, AreListed}
 use Rattle.hm_json_tree.specs.Reading.{of_listed}
@@ -40,5 +40,5 @@ returns-clause-listed c =
     let r = c.args.reader.now in
     let e = told r.path c.in-Some.form in
     let t = rw c.in_default-2.is at c.in_ok-point.ensures in
-    let more : AreListed vs (c.args.i + 1) (r.maker ++ e ∷ []) (path_behind r.path e) = read_more vs c.args.i r.maker r.path c.requires.listed c.index-items-i.result e c.index-items-i.is c.requires.inside c.in-Some.ensures.event in
+    let more : AreListed vs (c.args.i + 1) (r.maker ++ e ∷ []) (path_after_event r.path e) = read_more vs c.args.i r.maker r.path c.requires.listed c.index-items-i.result e c.index-items-i.is c.requires.inside c.in-Some.ensures.event in
     rw (t.1, t.2) more

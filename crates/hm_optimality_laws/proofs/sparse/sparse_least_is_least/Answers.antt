@@ -1,7 +1,7 @@
 use Rattle.hm_graph_laws.specs.UnitEdges.{edges_of}
 use Rattle.hm_optimality_laws.proofs.Dominance.{dominance_loses_nothing}
 use Rattle.hm_optimality_laws.proofs.Least.{needless}
-use Rattle.hm_optimality_laws.specs.Outdone.{dominance}
+use Rattle.hm_optimality_laws.specs.Dominated.{dominance}
 use Rattle.hm_optimality_laws.proofs.sparse.sparse_least_is_least.Goals as goal
 
 pub returns : goal.returns

@@ -10,8 +10,8 @@ use Rattle.hm_options.proofs.walk.collapse.Goals as goal
 pub loop-init : goal.loop-init
 loop-init c = (collapsing_begins c.args.conservative c.args.tree c.edit-editor.result c.edit-editor.ensures, omega (arith, c.left-end.ensures.left))
 
-pub kept_behind-after-requires : goal.kept_behind-after-requires
-kept_behind-after-requires c = few_kept c.loop.editor.done c.loop.editor.left c.loop.kept c.left.ensures.walk c.loop.invariant.0.known
+pub kept_after-after-requires : goal.kept_after-after-requires
+kept_after-after-requires c = few_kept c.loop.editor.done c.loop.editor.left c.loop.kept c.left.ensures.walk c.loop.invariant.0.known
 
 pub loop-preserved : goal.loop-preserved
 loop-preserved c =
@@ -20,9 +20,9 @@ loop-preserved c =
     let l = without_first old.left in
     let is : old.left ≡ e ∷ l = left_some old.left e c.next.ensures in
     let walk : IsWalk (old.done ++ e ∷ l) = rw is at c.left.ensures.walk in
-    let counts = c.kept_behind-after.ensures (path_after [] old.done) (end_matches old.done e l walk) c.loop.invariant.0.known in
+    let counts = c.kept_after-after.ensures (path_after [] old.done) (end_matches old.done e l walk) c.loop.invariant.0.known in
     let step = c.in_ok-edit_next.ensures in (
-      IsCollapsing-more c.args.conservative c.args.tree old c.edit_next.new.editor c.loop.kept c.kept_behind-after.result c.loop.invariant.0 step e l is c.left.ensures.walk counts,
+      IsCollapsing-more c.args.conservative c.args.tree old c.edit_next.new.editor c.loop.kept c.kept_after-after.result c.loop.invariant.0 step e l is c.left.ensures.walk counts,
       omega (arith, ap length is, ap length (step e l is).0, c.loop.invariant.1),
     )
 

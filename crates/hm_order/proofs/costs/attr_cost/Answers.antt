@@ -2,7 +2,7 @@ use Rattle.std.proofs.Common.{◌≡◌, ◌<◌, ℕ, Bool, true, false, ◌==�
 use Rattle.std.proofs.lemmas.Bool.Decides.{Decides-eqb}
 use Rattle.hm_graph_laws.specs.AttributeEdges.{gap_at}
 use Rattle.hm_graph_laws.specs.ExchangeLaws.{sparing_plain}
-use Rattle.hm_graph_laws.specs.States.{behind_name}
+use Rattle.hm_graph_laws.specs.States.{after_name}
 use Rattle.hm_spelling_spec.specs.Tags.{Spelling}
 use Rattle.hm_order.specs.Costs.{inner_cost, last_cost}
 use Rattle.hm_order.specs.Weights.{easy_cost}
@@ -14,7 +14,7 @@ use Rattle.hm_order.proofs.costs.attr_cost.Goals as goal
 bare_inner : (g : Spelling) (name value : List ℕ) → (length value == 0) ≡ true → inner_cost g (record { name = name; value = value }) ≡ Some (length name + 1)
 bare_inner g name [] none = by g.rules.tight
   where
-    by : (tight : Bool) → Some (length name + length (gap_at tight behind_name)) ≡ Some (length name + 1)
+    by : (tight : Bool) → Some (length name + length (gap_at tight after_name)) ≡ Some (length name + 1)
     by true = ap Some (omega arith)
     by false = ap Some (omega arith)
 bare_inner g name (c ∷ s) none = absurd (omega (arith, (Decides-eqb (length (c ∷ s)) 0).0 none))

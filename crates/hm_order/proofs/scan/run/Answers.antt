@@ -6,11 +6,11 @@ use Rattle.hm_order.proofs.scan.run.Goals as goal
 
 pub loop-byte-preserved : goal.loop-byte-preserved
 loop-byte-preserved c = record {
-  ahead = run_on c.args.table.now.entries double (pending_of c.args.table.now c.loop-byte.behind) _ c.args.bytes.now c.loop-byte.byte-index c.loop-byte-test.true c.in_ok-behind.ensures.step ∙ c.loop-byte.invariant.ahead;
-  nodes = c.in_ok-behind.ensures.nodes;
+  ahead = run_on c.args.table.now.entries double (pending_of c.args.table.now c.loop-byte.after) _ c.args.bytes.now c.loop-byte.byte-index c.loop-byte-test.true c.in_ok-after.ensures.step ∙ c.loop-byte.invariant.ahead;
+  nodes = c.in_ok-after.ensures.nodes;
 }
 
-pub returns-in_err-behind-clause-run : goal.returns-in_err-behind-clause-run
-returns-in_err-behind-clause-run c =
+pub returns-in_err-after-clause-run : goal.returns-in_err-after-clause-run
+returns-in_err-after-clause-run c =
     rw c.from_residual.ensures
-    (run_on c.args.table.now.entries double (pending_of c.args.table.now c.loop-byte.behind) None c.args.bytes.now c.loop-byte.byte-index c.loop-byte-test.true c.in_err-behind.ensures.step ∙ c.loop-byte.invariant.ahead)
+    (run_on c.args.table.now.entries double (pending_of c.args.table.now c.loop-byte.after) None c.args.bytes.now c.loop-byte.byte-index c.loop-byte-test.true c.in_err-after.ensures.step ∙ c.loop-byte.invariant.ahead)

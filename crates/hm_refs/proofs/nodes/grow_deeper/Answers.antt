@@ -16,10 +16,10 @@ pub loop-number-preserved : goal.loop-number-preserved
 loop-number-preserved c =
     let l : c.loop-number.number < length (entries_of c.args.names.now) = omega (arith, length_entries c.args.names.now, c.loop-number-test.true) in
     let m : c.loop-number.number < length c.loop-number.places = omega (arith, c.loop-number.invariant.as_long) in
-    let t = c.behind_first-tail.ensures ∙ ap (drop 1) (name_read c.args.names.now c.loop-number.number _ _ c.loop-number-test.true (c.as_bytes.ensures.value ∙ c.as_str.ensures)) in
+    let t = c.after_first_byte-tail.ensures ∙ ap (drop 1) (name_read c.args.names.now c.loop-number.number _ _ c.loop-number-test.true (c.as_bytes.ensures.value ∙ c.as_str.ensures)) in
     elim c.if-depth-tail.branch [
-      | then-depth-tail+in_ok-places w ↦ rw (w.nodes-is, w.places-is) (steps_on _ _ _ _ _ _ c.behind_first-tail.result.now _ _ _ c.loop-number.invariant l t w.if-depth-tail.true refl (place_read c.loop-number.places _ _ _ m w.index.ensures w.index-places-number.is) w.in_ok-places.ensures)
-      | else-depth-tail w ↦ rw (w.nodes-is, w.places-is) (skips_on _ _ _ _ _ c.behind_first-tail.result.now c.loop-number.invariant l t w.if-depth-tail.false)
+      | then-depth-tail+in_ok-places w ↦ rw (w.nodes-is, w.places-is) (steps_on _ _ _ _ _ _ c.after_first_byte-tail.result.now _ _ _ c.loop-number.invariant l t w.if-depth-tail.true refl (place_read c.loop-number.places _ _ _ m w.index.ensures w.index-places-number.is) w.in_ok-places.ensures)
+      | else-depth-tail w ↦ rw (w.nodes-is, w.places-is) (skips_on _ _ _ _ _ c.after_first_byte-tail.result.now c.loop-number.invariant l t w.if-depth-tail.false)
     ]
 
 pub returns : goal.returns
@@ -30,8 +30,8 @@ returns c =
 pub loop-number-init : goal.loop-number-init
 loop-number-init c = c.requires.spread
 
-pub behind_first-tail-requires : goal.behind_first-tail-requires
-behind_first-tail-requires c =
+pub after_first_byte-tail-requires : goal.after_first_byte-tail-requires
+after_first_byte-tail-requires c =
     let l : c.loop-number.number < length (entries_of c.args.names.now) = omega (arith, length_entries c.args.names.now, c.loop-number-test.true) in
     let is = name_read c.args.names.now c.loop-number.number _ _ c.loop-number-test.true (c.as_bytes.ensures.value ∙ c.as_str.ensures) in
     omega (arith, ap length is, (c.loop-number.invariant.names.short c.loop-number.number l).long)

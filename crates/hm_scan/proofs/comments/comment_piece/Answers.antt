@@ -1,7 +1,7 @@
 use Rattle.std.proofs.Common.{◌≡◌, true, false, codes, drop, sym, refl}
 use Rattle.std.proofs.lemmas.List.{take_rest}
 use Rattle.hm_scan.specs.Comments.{begins}
-use Rattle.hm_scan.proofs.CommentEnds.{question_piece, dashes_piece, bogus_piece, starts_behind}
+use Rattle.hm_scan.proofs.CommentEnds.{question_piece, dashes_piece, bogus_piece, starts_after}
 use Rattle.hm_scan.proofs.comments.comment_piece.Goals as goal
 
 pub returns-then-begins_with-clause-found : goal.returns-then-begins_with-clause-found
@@ -12,7 +12,7 @@ pub returns-then-begins_with-clause-from : goal.returns-then-begins_with-clause-
 returns-then-begins_with-clause-from c =
     let s = c.args.bytes.now in
     let question : begins (codes "<?") (drop c.args.start s) ≡ true = sym (rw (take_rest s c.args.start) at c.if-begins_with.ensures) in
-    starts_behind s c.args.start 1 _ c.up_to_greater.result c.up_to_greater.ensures (rw question refl)
+    starts_after s c.args.start 1 _ c.up_to_greater.result c.up_to_greater.ensures (rw question refl)
 
 pub returns-then-begins_with-2-clause-found : goal.returns-then-begins_with-2-clause-found
 returns-then-begins_with-2-clause-found c =
@@ -24,7 +24,7 @@ returns-then-begins_with-2-clause-from c =
     let s = c.args.bytes.now in
     let question : begins (codes "<?") (drop c.args.start s) ≡ false = sym (rw (take_rest s c.args.start) at c.if-begins_with.ensures) in
     let dashes : begins (codes "<!--") (drop c.args.start s) ≡ true = sym (rw (take_rest s c.args.start) at c.if-begins_with-2.ensures) in
-    starts_behind s c.args.start 4 _ c.comment_text.result c.comment_text.ensures (rw (question, dashes) refl)
+    starts_after s c.args.start 4 _ c.comment_text.result c.comment_text.ensures (rw (question, dashes) refl)
 
 pub returns-clause-found : goal.returns-clause-found
 returns-clause-found c =
@@ -36,4 +36,4 @@ returns-clause-from c =
     let s = c.args.bytes.now in
     let question : begins (codes "<?") (drop c.args.start s) ≡ false = sym (rw (take_rest s c.args.start) at c.if-begins_with.ensures) in
     let dashes : begins (codes "<!--") (drop c.args.start s) ≡ false = sym (rw (take_rest s c.args.start) at c.if-begins_with-2.ensures) in
-    starts_behind s c.args.start 2 _ c.up_to_greater-2.result c.up_to_greater-2.ensures (rw (question, dashes) refl)
+    starts_after s c.args.start 2 _ c.up_to_greater-2.result c.up_to_greater-2.ensures (rw (question, dashes) refl)

@@ -4,7 +4,7 @@ use Rattle.hm_base.specs.Bytes.{cut_at}
 use Rattle.hm_scan.specs.Comments.{begins_cdata, read_cdata}
 use Rattle.hm_scan.specs.Pieces.{as_slice}
 use Rattle.hm_scan.proofs.Searches.{begins_long, begins_reads}
-use Rattle.hm_scan.proofs.Places.{slice_read, found_behind}
+use Rattle.hm_scan.proofs.Places.{slice_read, found_after}
 use Rattle.hm_scan.proofs.comments.scan_cdata.Goals as goal
 
 pub up_to_brackets-requires : goal.up_to_brackets-requires
@@ -22,7 +22,7 @@ returns-in-Some-clause-ok c =
     let last : get_or (drop at s) 8 0 ≡ 91 = begins_reads (codes "<![CDATA[") (drop at s) c.requires.begins 8 (omega arith) in
     let place : get_or s (at + 9 - 1) 0 ≡ get_or (drop at s) 8 0 = ap (λ n. get_or s n 0) (omega arith) ∙ sym (get_or-drop at s 8 0) in
     let h = rw c.as_bytes.ensures.value at c.in-Some.ensures in
-    let found = found_behind s at (at + 9) (cut_at (codes "]]>") (drop (at + 9) s)) c.in-Some.piece (omega arith) (rw (place, last) (omega arith)) h in
+    let found = found_after s at (at + 9) (cut_at (codes "]]>") (drop (at + 9) s)) c.in-Some.piece (omega arith) (rw (place, last) (omega arith)) h in
     rw (drop-drop 9 at s) (slice_read s c.utf8.text at (cut_at (codes "]]>") (drop (at + 9) s)) c.in-Some.piece found)
 
 pub returns-in-None-clause-err : goal.returns-in-None-clause-err

@@ -5,15 +5,15 @@ use Rattle.hm_scan.specs.Scripts.{state_of, next_state}
 use Rattle.hm_scan.proofs.MarkPlaces.{ends_at, goes_past, never_ends, byte_is_ascii}
 use Rattle.hm_scan.proofs.scripts.script_end.Goals as goal
 
-pub returns-in_default-behind : goal.returns-in_default-behind
-returns-in_default-behind c =
+pub returns-in_default-after : goal.returns-in_default-after
+returns-in_default-after c =
     let s = c.args.bytes.now in
     let at = c.marks.at in
     let to = c.marks.at + c.in-Some.found in
     let h = rw (take_rest s at) at c.in-Some.ensures in
     let long : length (drop at s) ≡ length s - at = length-drop at s in
     let inside : to < length s = omega (arith, h.0.high) in
-    let ended : None ≡ next_state (state_of c.marks.state) (mark_at (drop to s)) = rw (c.mark_at.ensures, take_rest s to) at c.in_default-behind.ensures in
+    let ended : None ≡ next_state (state_of c.marks.state) (mark_at (drop to s)) = rw (c.mark_at.ensures, take_rest s to) at c.in_default-after.ensures in
     record {
       ordered = omega arith;
       inside = inside;
@@ -29,11 +29,11 @@ marks-preserved c =
     let h = rw (take_rest s at) at c.in-Some.ensures in
     let long : length (drop at s) ≡ length s - at = length-drop at s in
     let inside : to < length s = omega (arith, h.0.high) in
-    let further : Some (state_of c.in-Some-behind.next) ≡ next_state (state_of c.marks.state) (mark_at (drop to s)) = rw (c.mark_at.ensures, take_rest s to) at c.in-Some-behind.ensures in
+    let further : Some (state_of c.in-Some-after.next) ≡ next_state (state_of c.marks.state) (mark_at (drop to s)) = rw (c.mark_at.ensures, take_rest s to) at c.in-Some-after.ensures in
     record {
       low = omega arith;
       high = omega arith;
-      same = c.marks.invariant.same ∙ goes_past s c.args.from at to (omega arith) (omega arith) (omega arith) (λ j l p. h.0.before j (omega arith) (omega arith) p) (state_of c.marks.state) (state_of c.in-Some-behind.next) inside further;
+      same = c.marks.invariant.same ∙ goes_past s c.args.from at to (omega arith) (omega arith) (omega arith) (λ j l p. h.0.before j (omega arith) (omega arith) p) (state_of c.marks.state) (state_of c.in-Some-after.next) inside further;
     }
 
 pub returns : goal.returns

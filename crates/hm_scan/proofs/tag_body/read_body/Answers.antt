@@ -7,7 +7,7 @@ returns-in-Nothing-clause-err c =
 
 pub returns-in-TagEnd-clause-ok : goal.returns-in-TagEnd-clause-ok
 returns-in-TagEnd-clause-ok c =
-    read_end c.args.table.now.entries c.args.keeps c.args.text.now c.args.from c.loop-slash.at c.in-TagEnd.behind c.in-TagEnd.slash c.loop-slash.attrs c.loop-slash.collected c.loop-slash.invariant (rw c.as_bytes-bytes.ensures.value at c.in-TagEnd.ensures)
+    read_end c.args.table.now.entries c.args.keeps c.args.text.now c.args.from c.loop-slash.at c.in-TagEnd.after c.in-TagEnd.slash c.loop-slash.attrs c.loop-slash.collected c.loop-slash.invariant (rw c.as_bytes-bytes.ensures.value at c.in-TagEnd.ensures)
 
 pub loop-slash-preserved : goal.loop-slash-preserved
 loop-slash-preserved c =

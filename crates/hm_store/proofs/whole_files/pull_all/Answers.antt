@@ -1,7 +1,7 @@
 use Rattle.std.proofs.Common.{◌+◌, inl, inr, arith, sym, ◌∙◌}
 use Rattle.std.specs.Io.KnownBytes.{prepend_known}
 use Rattle.std.proofs.Transfers.{starts_with_trans}
-use Rattle.hm_store.proofs.LoadLemmas.{taken_behind}
+use Rattle.hm_store.proofs.LoadLemmas.{taken_after}
 use Rattle.hm_store.proofs.whole_files.pull_all.Goals as goal
 
 pub loop-piece-preserved : goal.loop-piece-preserved
@@ -30,7 +30,7 @@ returns-then-not-branch-clause-loaded g c =
     let held = c.loop-piece.invariant in
     let bytes = c.pull_more.new.bytes in
     let pulled = c.in_ok-pull_more.ensures in
-    taken_behind (g.S.Store.rest c.args.store.now) (g.S.Store.rest c.pull_more.new.store) front bytes.items (c.args.limit + 1) (sym {b = prepend_known bytes.items (g.S.Store.rest c.pull_more.new.store)} pulled.follows.whole ∙ held.whole)
+    taken_after (g.S.Store.rest c.args.store.now) (g.S.Store.rest c.pull_more.new.store) front bytes.items (c.args.limit + 1) (sym {b = prepend_known bytes.items (g.S.Store.rest c.pull_more.new.store)} pulled.follows.whole ∙ held.whole)
     (starts_with_trans bytes.items c.loop-piece.bytes.items front pulled.kept held.front)
     (omega (arith, pulled.within)) (inl (pulled.follows.ended c.if-not-branch.true))
 
@@ -75,5 +75,5 @@ pub returns-clause-loaded : goal.returns-clause-loaded
 returns-clause-loaded g c =
     let held = c.loop-piece.invariant in
     let bytes = c.loop-piece.bytes in
-    taken_behind (g.S.Store.rest c.args.store.now) (g.S.Store.rest c.loop-piece.store) c.args.front.now bytes.items (c.args.limit + 1) held.whole held.front
+    taken_after (g.S.Store.rest c.args.store.now) (g.S.Store.rest c.loop-piece.store) c.args.front.now bytes.items (c.args.limit + 1) held.whole held.front
     (omega arith) (inr (omega (arith, bytes.ok.0, c.loop-piece-test.false)))

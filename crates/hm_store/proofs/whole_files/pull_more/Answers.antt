@@ -19,16 +19,16 @@ was_true false h = absurd (cc)
 none_taken : (n : ℕ) → not (n == 0) ≡ false → n ≡ 0
 none_taken n h = (Decides-eqb n 0).0 (was_true (n == 0) h)
 
-known_behind : (old s : List ℕ) (b : Option (List ℕ)) → prepend_known old (prepend_known s b) ≡ prepend_known (old ++ s) b
-known_behind old s None = refl
-known_behind old s (Some r) = ap Some (sym (append_assoc old s r))
+known_after : (old s : List ℕ) (b : Option (List ℕ)) → prepend_known old (prepend_known s b) ≡ prepend_known (old ++ s) b
+known_after old s None = refl
+known_after old s (Some r) = ap Some (sym (append_assoc old s r))
 
 -- n bytes are taken into a piece, and appended to those that are there
 one_turn : (old new into tail : List ℕ) (a b : Option (List ℕ)) (n : ℕ) → new ≡ old ++ take n (into ++ tail) → n ≤ length into → 0 < length into → Pulls a b n into → FollowsOn old a new b (not (n == 0))
 one_turn old new into tail a b n e within some p =
     let is : new ≡ old ++ take n into = e ∙ ap (λ s. old ++ s) (take-append-le n into tail within) in
     record {
-      whole = ap (prepend_known old) p.front ∙ known_behind old (take n into) b ∙ ap (λ s. prepend_known s b) (sym is);
+      whole = ap (prepend_known old) p.front ∙ known_after old (take n into) b ∙ ap (λ s. prepend_known s b) (sym is);
       longer = λ more. omega (arith, ap length is, length-append old (take n into), length-take n into, within, some_taken n more);
       ended = λ none. p.ended (none_taken n none) some;
     }

@@ -1,9 +1,9 @@
 use Rattle.std.proofs.Common.{◌≡◌, ◌+◌, ◌-◌, ◌<◌, ◌≤◌, ℕ, List, length, map, drop, sym, ap, ◌∙◌, arith}
 use Rattle.std.specs.String.{string_bytes}
 use Rattle.hm_base.specs.Source.{Source, byte_of}
-use Rattle.hm_base.specs.Places.{pairs_behind, source_from}
+use Rattle.hm_base.specs.Places.{pairs_after, source_from}
 use Rattle.hm_base.proofs.Places.{source_from-bytes}
-use Rattle.hm_base.proofs.Dropped.{end_behind, inside_text, invariant_behind, length_behind, source_behind, view_behind}
+use Rattle.hm_base.proofs.Dropped.{end_after, inside_text, invariant_after, length_after, source_after, view_after}
 use Rattle.hm_base.proofs.source.SourceText.drop_front.Goals as goal
 use Rattle.hm_base.proofs.source.SourceText.drop_front.Goals.{in-Ok, in-Err}
 
@@ -13,7 +13,7 @@ overflow_add-self c =
     omega (arith, inside_text s.start c.args.n s.pairs.items (string_bytes s.text) _ c.self.view_is c.requires.inside, c.self.invariant.short)
 
 pub overflow_sub-self : goal.overflow_sub-self
-overflow_sub-self c = omega (arith, c.len.ensures, c.len-pairs.ensures, ap length c.drop_pairs.ensures, length_behind c.args.n c.self.inside.pairs.items)
+overflow_sub-self c = omega (arith, c.len.ensures, c.len-pairs.ensures, ap length c.drop_pairs.ensures, length_after c.args.n c.self.inside.pairs.items)
 
 pub overflow_add-self-2 : goal.overflow_add-self-2
 overflow_add-self-2 c =
@@ -41,17 +41,17 @@ text_is c = elim c.match-replace_range.branch [
 pub invariant_of-self : goal.invariant_of-self
 invariant_of-self c =
     let s = c.self.inside in
-    invariant_behind s.start c.args.n c.len-pairs.result c.len.result s.pairs.items c.drop_pairs.new.pairs.items (string_bytes s.text) (string_bytes c.replace_range.new.self) c.drop_pairs.ensures (omega (arith, c.len-pairs.ensures)) (omega (arith, c.len.ensures)) (text_is c)
+    invariant_after s.start c.args.n c.len-pairs.result c.len.result s.pairs.items c.drop_pairs.new.pairs.items (string_bytes s.text) (string_bytes c.replace_range.new.self) c.drop_pairs.ensures (omega (arith, c.len-pairs.ensures)) (omega (arith, c.len.ensures)) (text_is c)
     (inside_text s.start c.args.n s.pairs.items (string_bytes s.text) _ c.self.view_is c.requires.inside) c.self.invariant
 
 pub returns-clause-placed : goal.returns-clause-placed
 returns-clause-placed c =
     let s = c.self.inside in
-    ap (λ (v : Source). v.placed) (view_behind s.start c.args.n c.len-pairs.result c.len.result s.pairs.items c.drop_pairs.new.pairs.items (string_bytes s.text) (string_bytes c.replace_range.new.self) c.drop_pairs.ensures (omega (arith, c.len-pairs.ensures)) (omega (arith, c.len.ensures)) (text_is c))
-    ∙ source_behind s.start c.args.n s.pairs.items (string_bytes s.text) ∙ ap (λ (v : Source). drop c.args.n v.placed) c.self.view_is
+    ap (λ (v : Source). v.placed) (view_after s.start c.args.n c.len-pairs.result c.len.result s.pairs.items c.drop_pairs.new.pairs.items (string_bytes s.text) (string_bytes c.replace_range.new.self) c.drop_pairs.ensures (omega (arith, c.len-pairs.ensures)) (omega (arith, c.len.ensures)) (text_is c))
+    ∙ source_after s.start c.args.n s.pairs.items (string_bytes s.text) ∙ ap (λ (v : Source). drop c.args.n v.placed) c.self.view_is
 
 pub returns-clause-end : goal.returns-clause-end
 returns-clause-end c =
     let s = c.self.inside in
-    ap (λ (v : Source). v.end) (view_behind s.start c.args.n c.len-pairs.result c.len.result s.pairs.items c.drop_pairs.new.pairs.items (string_bytes s.text) (string_bytes c.replace_range.new.self) c.drop_pairs.ensures (omega (arith, c.len-pairs.ensures)) (omega (arith, c.len.ensures)) (text_is c))
-    ∙ end_behind s.start c.args.n s.pairs.items (string_bytes s.text) (inside_text s.start c.args.n s.pairs.items (string_bytes s.text) _ c.self.view_is c.requires.inside) ∙ ap (λ (v : Source). v.end) c.self.view_is
+    ap (λ (v : Source). v.end) (view_after s.start c.args.n c.len-pairs.result c.len.result s.pairs.items c.drop_pairs.new.pairs.items (string_bytes s.text) (string_bytes c.replace_range.new.self) c.drop_pairs.ensures (omega (arith, c.len-pairs.ensures)) (omega (arith, c.len.ensures)) (text_is c))
+    ∙ end_after s.start c.args.n s.pairs.items (string_bytes s.text) (inside_text s.start c.args.n s.pairs.items (string_bytes s.text) _ c.self.view_is c.requires.inside) ∙ ap (λ (v : Source). v.end) c.self.view_is

@@ -9,32 +9,32 @@ use Rattle.hm_base.proofs.Lines.{with_lines_pair, with_lines_return, with_lines_
 use Rattle.hm_base.proofs.source.SourceText.push_lines.Goals as goal
 
 -- a line before a CR
-line_bytes : (rest line behind : List ℕ) → all_pass is_nonzero rest ≡ true → (rest ≡ line ++ 13 ∷ behind) × ((i : ℕ) → i < length line → get_or line i 0 ≢ 13) → all_pass is_text_byte line ≡ true
-line_bytes rest line behind h parts = text_bytes line (all_pass_first is_nonzero line (13 ∷ behind) (rw (sym parts.0) h)) parts.1
+line_bytes : (rest line after : List ℕ) → all_pass is_nonzero rest ≡ true → (rest ≡ line ++ 13 ∷ after) × ((i : ℕ) → i < length line → get_or line i 0 ≢ 13) → all_pass is_text_byte line ≡ true
+line_bytes rest line after h parts = text_bytes line (all_pass_first is_nonzero line (13 ∷ after) (rw (sym parts.0) h)) parts.1
 
-behind_bytes : (rest line behind : List ℕ) → all_pass is_nonzero rest ≡ true → rest ≡ line ++ 13 ∷ behind → all_pass is_nonzero behind ≡ true
-behind_bytes rest line behind h e = all_pass_second is_nonzero line (13 ∷ behind) (rw (sym e) h)
+after_bytes : (rest line after : List ℕ) → all_pass is_nonzero rest ≡ true → rest ≡ line ++ 13 ∷ after → all_pass is_nonzero after ≡ true
+after_bytes rest line after h e = all_pass_second is_nonzero line (13 ∷ after) (rw (sym e) h)
 
 pub push_bytes-requires-clause-plain : goal.push_bytes-requires-clause-plain
 push_bytes-requires-clause-plain c =
-    line_bytes c.loop-line.rest.now c.in-Some.line.now c.in-Some.behind.now c.loop-line.invariant.no_zero (split_parts 13 c.loop-line.rest.now (Some (c.in-Some.line, c.in-Some.behind)) c.in-Some.ensures.cases (omega arith))
+    line_bytes c.loop-line.rest.now c.in-Some.line.now c.in-Some.after.now c.loop-line.invariant.no_zero (split_parts 13 c.loop-line.rest.now (Some (c.in-Some.line, c.in-Some.after)) c.in-Some.ensures.cases (omega arith))
 
 pub loop-line-preserved-in-Some-strip_prefix : goal.loop-line-preserved-in-Some-strip_prefix
 loop-line-preserved-in-Some-strip_prefix c =
     let source = c.loop-line.self in
     let rest = c.loop-line.rest.now in
     let line = c.in-Some.line.now in
-    let behind = c.in-Some.behind.now in
+    let after = c.in-Some.after.now in
     let next = c.in-Some-strip_prefix.next.now in
-    let parts = split_parts 13 rest (Some (c.in-Some.line, c.in-Some.behind)) c.in-Some.ensures.cases (omega arith) in
-    let feed : behind ≡ 10 ∷ next = strip_prefix_char 10 behind (Some c.in-Some-strip_prefix.next) c.in-Some-strip_prefix.ensures.cases (omega arith) in
+    let parts = split_parts 13 rest (Some (c.in-Some.line, c.in-Some.after)) c.in-Some.ensures.cases (omega arith) in
+    let feed : after ≡ 10 ∷ next = strip_prefix_char 10 after (Some c.in-Some-strip_prefix.next) c.in-Some-strip_prefix.ensures.cases (omega arith) in
     let cut : rest ≡ line ++ 13 ∷ 10 ∷ next = parts.0 ∙ ap (λ s. line ++ 13 ∷ s) feed in
-    let plain = line_bytes rest line behind c.loop-line.invariant.no_zero parts in
+    let plain = line_bytes rest line after c.loop-line.invariant.no_zero parts in
     record {
       same = rw (c.in_ok-push_pair-in-Some-strip_prefix.ensures, c.in_ok-push_bytes.ensures) (with_lines_pair source line next plain ∙ ap (λ s. with_lines source s) (sym cut) ∙ c.loop-line.invariant.same);
       text = search rules;
       room = rw (c.in_ok-push_pair-in-Some-strip_prefix.ensures, c.in_ok-push_bytes.ensures) (omega (arith, ap length cut, length-append line (13 ∷ 10 ∷ next)));
-      no_zero = behind_bytes rest line (10 ∷ next) c.loop-line.invariant.no_zero cut;
+      no_zero = after_bytes rest line (10 ∷ next) c.loop-line.invariant.no_zero cut;
     }
 
 pub loop-line-preserved : goal.loop-line-preserved
@@ -42,15 +42,15 @@ loop-line-preserved c =
     let source = c.loop-line.self in
     let rest = c.loop-line.rest.now in
     let line = c.in-Some.line.now in
-    let behind = c.in-Some.behind.now in
-    let parts = split_parts 13 rest (Some (c.in-Some.line, c.in-Some.behind)) c.in-Some.ensures.cases (omega arith) in
-    let other : (next : List ℕ) → behind ≢ 10 ∷ next = strip_prefix_char 10 behind None c.in-None.ensures.cases (omega arith) in
-    let plain = line_bytes rest line behind c.loop-line.invariant.no_zero parts in
+    let after = c.in-Some.after.now in
+    let parts = split_parts 13 rest (Some (c.in-Some.line, c.in-Some.after)) c.in-Some.ensures.cases (omega arith) in
+    let other : (next : List ℕ) → after ≢ 10 ∷ next = strip_prefix_char 10 after None c.in-None.ensures.cases (omega arith) in
+    let plain = line_bytes rest line after c.loop-line.invariant.no_zero parts in
     record {
-      same = rw (c.in_ok-push_bytes-in-None.ensures, c.in_ok-push_bytes.ensures) (with_lines_return source line behind plain other ∙ ap (λ s. with_lines source s) (sym parts.0) ∙ c.loop-line.invariant.same);
+      same = rw (c.in_ok-push_bytes-in-None.ensures, c.in_ok-push_bytes.ensures) (with_lines_return source line after plain other ∙ ap (λ s. with_lines source s) (sym parts.0) ∙ c.loop-line.invariant.same);
       text = search rules;
-      room = rw (c.in_ok-push_bytes-in-None.ensures, c.in_ok-push_bytes.ensures) (omega (arith, ap length parts.0, length-append line (13 ∷ behind)));
-      no_zero = behind_bytes rest line behind c.loop-line.invariant.no_zero parts.0;
+      room = rw (c.in_ok-push_bytes-in-None.ensures, c.in_ok-push_bytes.ensures) (omega (arith, ap length parts.0, length-append line (13 ∷ after)));
+      no_zero = after_bytes rest line after c.loop-line.invariant.no_zero parts.0;
     }
 
 -- the last line has no CR

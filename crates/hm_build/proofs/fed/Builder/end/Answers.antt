@@ -1,7 +1,7 @@
 use Rattle.std.proofs.Common.{◌≡◌, sym, subst, ◌∙◌}
 use Rattle.std.proofs.lemmas.Result.{IfErr-weaker, IfOk-weaker}
 use Rattle.hm_construction_laws.specs.Trees.{built}
-use Rattle.hm_feed.specs.Pieces.{before_text}
+use Rattle.hm_decoder.specs.Pieces.{before_text}
 use Rattle.hm_build.specs.Feeding.{Feeding, HasCome, page_outcome_within}
 use Rattle.hm_build.specs.Parsing.{IsRefusedAs}
 use Rattle.hm_build.proofs.Room.{within_further}

@@ -2,7 +2,7 @@ use Rattle.std.proofs.Common.{◌≡◌, ◌+◌, ◌≤◌, length, drop, map, 
 use Rattle.std.proofs.lemmas.List.{length-drop}
 use Rattle.hm_base.specs.Source.{Source, byte_of}
 use Rattle.hm_construction_laws.specs.Trees.{mode_of}
-use Rattle.hm_feed.specs.Pieces.{before_text}
+use Rattle.hm_decoder.specs.Pieces.{before_text}
 use Rattle.hm_lexer.specs.Ready.{ready}
 use Rattle.hm_build.specs.Feeding.{Comes, Feeding, HasCome, StopsAs}
 use Rattle.hm_build.specs.Parsing.{IsWithin}

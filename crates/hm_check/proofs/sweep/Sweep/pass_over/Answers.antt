@@ -22,7 +22,7 @@ follow-requires-clause-low c = subst IsLowStep (sym c.requires.step) (low_step c
 pub returns : goal.returns
 returns c =
     let out : is_left_out c.args.graph.now.source.format c.args.k (get_or c.args.graph.now.steps c.args.k []) ≡ true = sym (ap (is_left_out c.args.graph.now.source.format c.args.k) c.requires.step) ∙ c.requires.out in
-    let after : Sweep = record { at = c.args.self.now.at; behind = c.follow.new.behind; found = c.args.self.now.found; spare = c.follow.new.spare } in
+    let after : Sweep = record { at = c.args.self.now.at; next_row = c.follow.new.next_row; found = c.args.self.now.found; spare = c.follow.new.spare } in
     on_ok_weaker c.follow.result (λ e.
     out_swept c.args.graph.now c.args.prices.now c.args.k c.args.self.now after c.requires.layer c.every_graph.ensures.graph.low out c.requires.swept refl refl
-    (λ _. e ∙ ap (row_over (map told c.args.self.now.behind.items)) c.requires.step)) c.follow.ensures
+    (λ _. e ∙ ap (row_over (map told c.args.self.now.next_row.items)) c.requires.step)) c.follow.ensures

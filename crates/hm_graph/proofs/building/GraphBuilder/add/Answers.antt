@@ -21,19 +21,19 @@ invariant_of-self-2 c =
     let old = c.self.inside in
     let new = c.step.new.self in
     let n = c.in_ok-number.number in
-    subst (λ ns. IsBuilding new ns (old.len + 1) c.behind-last.result) (sym c.in_ok-keep_number.ensures.ok)
-    (subst (λ k. IsBuilding new (more_numbers old.numbers 1 n) (old.len + 1) k) (sym c.behind-last.ensures)
-    (building_more old.interned new old.numbers old.len 1 old.last n (made_at new n).behind c.self.invariant c.step.ensures.kept c.in_ok-number.ensures.step.there c.in_ok-number.ensures.step.behind (omega (arith, c.if-self.false))))
+    subst (λ ns. IsBuilding new ns (old.len + 1) c.after-last.result) (sym c.in_ok-keep_number.ensures.ok)
+    (subst (λ k. IsBuilding new (more_numbers old.numbers 1 n) (old.len + 1) k) (sym c.after-last.ensures)
+    (building_more old.interned new old.numbers old.len 1 old.last n (made_at new n).after c.self.invariant c.step.ensures.kept c.in_ok-number.ensures.step.there c.in_ok-number.ensures.step.after (omega (arith, c.if-self.false))))
 
 pub returns-clause-adds : goal.returns-clause-adds
 returns-clause-adds c = λ u stands.
     let old = c.self.inside in
     let new = c.step.new.self in
     let n = c.in_ok-number.number in
-    subst (λ a. AddsSteps a (building new c.keep_number.new.numbers (old.len + 1) c.behind-last.result) (u ∷ []) ((made_at new n).step ∷ [])) c.self.view_is
-    (subst (λ ns. AddsSteps (building old.interned old.numbers old.len old.last) (building new ns (old.len + 1) c.behind-last.result) (u ∷ []) ((made_at new n).step ∷ [])) (sym c.in_ok-keep_number.ensures.ok)
-    (subst (λ k. AddsSteps (building old.interned old.numbers old.len old.last) (building new (more_numbers old.numbers 1 n) (old.len + 1) k) (u ∷ []) ((made_at new n).step ∷ [])) (sym c.behind-last.ensures)
+    subst (λ a. AddsSteps a (building new c.keep_number.new.numbers (old.len + 1) c.after-last.result) (u ∷ []) ((made_at new n).step ∷ [])) c.self.view_is
+    (subst (λ ns. AddsSteps (building old.interned old.numbers old.len old.last) (building new ns (old.len + 1) c.after-last.result) (u ∷ []) ((made_at new n).step ∷ [])) (sym c.in_ok-keep_number.ensures.ok)
+    (subst (λ k. AddsSteps (building old.interned old.numbers old.len old.last) (building new (more_numbers old.numbers 1 n) (old.len + 1) k) (u ∷ []) ((made_at new n).step ∷ [])) (sym c.after-last.ensures)
     (adds_one old.interned new old.numbers old.len old.last c.args.unit.now n c.self.invariant c.step.ensures.kept c.in_ok-number.ensures.step u (subst (λ b. StandsFor b.table.entries c.args.unit.now u) (sym c.self.view_is) stands))))
 
 pub returns-clause-step : goal.returns-clause-step
-returns-clause-step c = made_one c.step.new.self c.keep_number.new.numbers (c.self.inside.len + 1) c.self.inside.last c.behind-last.result c.args.unit.now c.in_ok-number.number c.in_ok-number.ensures.step
+returns-clause-step c = made_one c.step.new.self c.keep_number.new.numbers (c.self.inside.len + 1) c.self.inside.last c.after-last.result c.args.unit.now c.in_ok-number.number c.in_ok-number.ensures.step

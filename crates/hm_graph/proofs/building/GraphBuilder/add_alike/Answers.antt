@@ -21,7 +21,7 @@ invariant_of-self-2 c =
     let leads : All (Leads own.interned own.last c.args.kind true to) (take count text) = subst (λ b. All (Leads own.interned own.last c.args.kind true to) (take count b)) c.as_bytes.ensures.value c.alike-alike.ensures.leads in
     let added = text_added own.interned own.numbers own.len own.last c.args.kind to text count c.utf8.text (omega (arith, c.if-count-eq0.false)) (omega (arith, c.if-count-eq0.false, c.alike-alike.ensures.short (omega (arith, c.if-count-eq0.false)), ap length c.as_bytes.ensures.value)) c.alike-alike.ensures.back
     c.self.invariant leads (omega (arith, c.if-count-ge-LIMIT.false, c.if-self-count.false)) in
-    subst (λ ns. IsBuilding own.interned ns (own.len + count) to.behind) (sym c.in_ok-keep_number.ensures.ok) added.is
+    subst (λ ns. IsBuilding own.interned ns (own.len + count) to.after) (sym c.in_ok-keep_number.ensures.ok) added.is
 
 pub returns-clause-adds : goal.returns-clause-adds
 returns-clause-adds c = λ some.
@@ -34,8 +34,8 @@ returns-clause-adds c = λ some.
     c.self.invariant leads (omega (arith, c.if-count-ge-LIMIT.false, c.if-self-count.false)) in
     let kind = kind_of c.args.kind in
     let steps = replicate count (made_at own.interned to.number).step in
-    subst (λ old. AddsFront old (building own.interned c.keep_number.new.numbers (own.len + count) to.behind) kind (chars text) (chars (drop count text)) steps) c.self.view_is
-    (subst (λ ns. AddsFront (building own.interned own.numbers own.len own.last) (building own.interned ns (own.len + count) to.behind) kind (chars text) (chars (drop count text)) steps) (sym c.in_ok-keep_number.ensures.ok) added.front)
+    subst (λ old. AddsFront old (building own.interned c.keep_number.new.numbers (own.len + count) to.after) kind (chars text) (chars (drop count text)) steps) c.self.view_is
+    (subst (λ ns. AddsFront (building own.interned own.numbers own.len own.last) (building own.interned ns (own.len + count) to.after) kind (chars text) (chars (drop count text)) steps) (sym c.in_ok-keep_number.ensures.ok) added.front)
 
 pub returns-clause-step : goal.returns-clause-step
 returns-clause-step c = λ some.
@@ -45,7 +45,7 @@ returns-clause-step c = λ some.
     let to = c.alike-alike.result.to in
     let leads : All (Leads own.interned own.last c.args.kind true to) (take count text) = subst (λ b. All (Leads own.interned own.last c.args.kind true to) (take count b)) c.as_bytes.ensures.value c.alike-alike.ensures.leads in
     let inside : count ≤ length text = omega (arith, c.alike-alike.ensures.within, ap length c.as_bytes.ensures.value) in
-    alike_made own.interned c.keep_number.new.numbers (own.len + count) own.last to.behind c.args.kind to text count some inside leads
+    alike_made own.interned c.keep_number.new.numbers (own.len + count) own.last to.after c.args.kind to text count some inside leads
 
 pub returns-clause-none : goal.returns-clause-none
 returns-clause-none c = λ none. absurd (c.if-count-eq0.false none)

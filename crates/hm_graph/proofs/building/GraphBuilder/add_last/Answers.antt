@@ -23,9 +23,9 @@ invariant_of-self-in_err-keep_number c =
 pub invariant_of-self-2 : goal.invariant_of-self-2
 invariant_of-self-2 c =
     let old = c.self.inside in
-    subst (λ ns. IsBuilding c.last_step.new.self ns (old.len + 1) c.in_ok-to.to.behind) (sym c.in_ok-keep_number.ensures.ok)
-    (building_more old.interned c.last_step.new.self old.numbers old.len 1 old.last c.in_ok-to.to.number c.in_ok-to.to.behind c.self.invariant c.last_step.ensures.kept c.in_ok-to.ensures.step.there
-    (subst (λ b. b < length c.last_step.new.self.lists) (sym c.in_ok-to.ensures.behind) c.in_ok-to.ensures.step.behind) (omega (arith, c.if-self.false)))
+    subst (λ ns. IsBuilding c.last_step.new.self ns (old.len + 1) c.in_ok-to.to.after) (sym c.in_ok-keep_number.ensures.ok)
+    (building_more old.interned c.last_step.new.self old.numbers old.len 1 old.last c.in_ok-to.to.number c.in_ok-to.to.after c.self.invariant c.last_step.ensures.kept c.in_ok-to.ensures.step.there
+    (subst (λ b. b < length c.last_step.new.self.lists) (sym c.in_ok-to.ensures.after) c.in_ok-to.ensures.step.after) (omega (arith, c.if-self.false)))
 
 pub returns-clause-adds : goal.returns-clause-adds
 returns-clause-adds c =
@@ -34,12 +34,12 @@ returns-clause-adds c =
     let n = c.in_ok-to.to.number in
     let unit : Unit = Character c.args.kind c.args.c None false in
     let u : units.Unit = units.character (kind_of c.args.kind) c.args.c None in
-    subst (λ a. AddsSteps a (building new c.keep_number.new.numbers (old.len + 1) c.in_ok-to.to.behind) (u ∷ []) (numbered_step (building new c.keep_number.new.numbers (old.len + 1) c.in_ok-to.to.behind) n ∷ [])) c.self.view_is
-    (subst (λ ns. AddsSteps (building old.interned old.numbers old.len old.last) (building new ns (old.len + 1) c.in_ok-to.to.behind) (u ∷ []) ((made_at new n).step ∷ [])) (sym c.in_ok-keep_number.ensures.ok)
-    (subst (λ k. AddsSteps (building old.interned old.numbers old.len old.last) (building new (more_numbers old.numbers 1 n) (old.len + 1) k) (u ∷ []) ((made_at new n).step ∷ [])) (sym c.in_ok-to.ensures.behind)
+    subst (λ a. AddsSteps a (building new c.keep_number.new.numbers (old.len + 1) c.in_ok-to.to.after) (u ∷ []) (numbered_step (building new c.keep_number.new.numbers (old.len + 1) c.in_ok-to.to.after) n ∷ [])) c.self.view_is
+    (subst (λ ns. AddsSteps (building old.interned old.numbers old.len old.last) (building new ns (old.len + 1) c.in_ok-to.to.after) (u ∷ []) ((made_at new n).step ∷ [])) (sym c.in_ok-keep_number.ensures.ok)
+    (subst (λ k. AddsSteps (building old.interned old.numbers old.len old.last) (building new (more_numbers old.numbers 1 n) (old.len + 1) k) (u ∷ []) ((made_at new n).step ∷ [])) (sym c.in_ok-to.ensures.after)
     (adds_one old.interned new old.numbers old.len old.last unit n c.self.invariant c.last_step.ensures.kept c.in_ok-to.ensures.step u
     (edges.character c.args.kind c.args.c None None false refl refl))))
 
 pub returns-clause-step : goal.returns-clause-step
 returns-clause-step c =
-    made_one c.last_step.new.self c.keep_number.new.numbers (c.self.inside.len + 1) c.self.inside.last c.in_ok-to.to.behind (Character c.args.kind c.args.c None false) c.in_ok-to.to.number c.in_ok-to.ensures.step
+    made_one c.last_step.new.self c.keep_number.new.numbers (c.self.inside.len + 1) c.self.inside.last c.in_ok-to.to.after (Character c.args.kind c.args.c None false) c.in_ok-to.to.number c.in_ok-to.ensures.step

@@ -18,7 +18,7 @@ keep_text-requires c = λ ascii.
       ascii = ascii;
       from = (c.step.ensures.kept.lists c.args.list c.requires).there;
       step = subst (λ unit. IsStepOf m c.args.list unit c.in_ok-number.number) (c.character_in_front-unit.ensures ∙ ap (λ pair. Character c.args.kind c.args.c pair true) none) c.in_ok-number.ensures.step;
-      behind = c.behind-behind.ensures;
+      after = c.after-after.ensures;
       lone = λ more. lone;
     }
 
@@ -30,8 +30,8 @@ returns-clause-step c =
     subst (λ m. IsStepOf m c.args.list (Character c.args.kind c.args.c (pair_of c.args.self.now.table.entries c.args.c (Some c.args.next)) true) c.in_ok-number.number) (sym c.keep_text.ensures)
     (subst (λ unit. IsStepOf c.step.new.self c.args.list unit c.in_ok-number.number) (c.character_in_front-unit.ensures ∙ ap (λ pair. Character c.args.kind c.args.c pair true) c.pair_of-pair.ensures) c.in_ok-number.ensures.step)
 
-pub returns-clause-behind : goal.returns-clause-behind
-returns-clause-behind c = subst (λ m. c.behind-behind.result ≡ (made_at m c.in_ok-number.number).behind) (sym c.keep_text.ensures) c.behind-behind.ensures
+pub returns-clause-after : goal.returns-clause-after
+returns-clause-after c = subst (λ m. c.after-after.result ≡ (made_at m c.in_ok-number.number).after) (sym c.keep_text.ensures) c.after-after.ensures
 
 pub returns-clause-kept : goal.returns-clause-kept
 returns-clause-kept c = subst (Grows c.args.self.now) (sym c.keep_text.ensures) c.step.ensures.kept

@@ -12,4 +12,4 @@ returns-clause-made c =
     (some_made m c.args.made.now c.equal_made.result
     (subst (λ xs. IfSome c.equal_made.result (λ n. n < length xs)) c.as_slice.ensures.value c.equal_made.ensures.there)
     (subst (λ xs. IfSome c.equal_made.result (HoldsAt (λ y. y.step ≡ c.args.made.now.step) xs)) c.as_slice.ensures.value c.equal_made.ensures.step)
-    (subst (λ xs. IfSome c.equal_made.result (HoldsAt (λ y. y.behind ≡ c.args.made.now.behind) xs)) c.as_slice.ensures.value c.equal_made.ensures.behind))
+    (subst (λ xs. IfSome c.equal_made.result (HoldsAt (λ y. y.after ≡ c.args.made.now.after) xs)) c.as_slice.ensures.value c.equal_made.ensures.after))

@@ -8,7 +8,7 @@ note-requires-clause-list c = (c.keep_layer.ensures.kept.lists c.args.front.list
 
 pub note-requires-clause-step : goal.note-requires-clause-step
 note-requires-clause-step c =
-    layer_kept c.args.self.now c.keep_layer.new.self c.args.front.list c.args.front.unit c.in_ok-number.number c.in_ok-step.behind.items c.in_ok-step.step c.keep_layer.ensures.kept c.requires c.in_ok-step.ensures c.in_ok-number.ensures.there c.in_ok-number.ensures.behind
+    layer_kept c.args.self.now c.keep_layer.new.self c.args.front.list c.args.front.unit c.in_ok-number.number c.in_ok-step.after.items c.in_ok-step.step c.keep_layer.ensures.kept c.requires c.in_ok-step.ensures c.in_ok-number.ensures.there c.in_ok-number.ensures.after
     c.in_ok-number.ensures.step
 
 pub returns-in_err-note-clause-kept : goal.returns-in_err-note-clause-kept
@@ -17,7 +17,7 @@ returns-in_err-note-clause-kept c = subst (Grows c.args.self.now) (sym c.note.en
 pub returns-clause-step : goal.returns-clause-step
 returns-clause-step c =
     subst (λ w. IsStepOf w c.args.front.list c.args.front.unit c.in_ok-number.number) (sym c.note.ensures)
-    (layer_kept c.args.self.now c.keep_layer.new.self c.args.front.list c.args.front.unit c.in_ok-number.number c.in_ok-step.behind.items c.in_ok-step.step c.keep_layer.ensures.kept c.requires c.in_ok-step.ensures c.in_ok-number.ensures.there c.in_ok-number.ensures.behind
+    (layer_kept c.args.self.now c.keep_layer.new.self c.args.front.list c.args.front.unit c.in_ok-number.number c.in_ok-step.after.items c.in_ok-step.step c.keep_layer.ensures.kept c.requires c.in_ok-step.ensures c.in_ok-number.ensures.there c.in_ok-number.ensures.after
     c.in_ok-number.ensures.step)
 
 pub returns-clause-kept : goal.returns-clause-kept

@@ -2,7 +2,7 @@ use Rattle.std.proofs.Common.{◌≡◌, ◌∷◌, [], true, Err, ap, sym, ◌�
 use Rattle.hm_elements.specs.Names.{is_among}
 use Rattle.hm_elements.specs.Tables.{is_root, roots, is_void}
 use Rattle.hm_elements.specs.Paths.{outer}
-use Rattle.hm_settle.specs.Moves.{element}
+use Rattle.hm_open_elements.specs.Moves.{element}
 use Rattle.hm_base.specs.Walks.{path_after}
 use Rattle.std.proofs.lemmas.Bool.{both_ways}
 use Rattle.hm_insertion.proofs.Opened.{svg_moved, svg_not_refused, svg_no_root, path_here, path_outer, closed_entered}

@@ -4,7 +4,7 @@ use Rattle.hm_elements.specs.Tables.{is_root, roots}
 use Rattle.hm_elements.specs.Paths.{is_open}
 use Rattle.hm_elements.proofs.TableTools.{same_bytes}
 use Rattle.hm_construction_laws.specs.Steps.{Stepped, end_current, after_end_moves}
-use Rattle.hm_settle.specs.Moves.{end_moves}
+use Rattle.hm_open_elements.specs.Moves.{end_moves}
 use Rattle.hm_insertion.specs.Building.{IsRefused, of_settle}
 use Rattle.hm_insertion.specs.Inside.{state_of, IsDone}
 use Rattle.hm_insertion.proofs.EndTags.{no_svg_root, roots_open, root_is_refused, ends_current, ends_done, ends_within, settle_refused, takes_fault}

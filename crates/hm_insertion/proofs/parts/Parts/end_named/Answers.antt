@@ -1,6 +1,6 @@
 use Rattle.std.proofs.Common.{Err, refl, ap}
 use Rattle.hm_construction_laws.specs.Steps.{after_end_moves}
-use Rattle.hm_settle.specs.Moves.{end_moves}
+use Rattle.hm_open_elements.specs.Moves.{end_moves}
 use Rattle.hm_insertion.specs.Building.{IsRefused, of_settle}
 use Rattle.hm_insertion.specs.Inside.{state_of}
 use Rattle.hm_insertion.proofs.EndTags.{ends_done, ends_within, settle_refused, takes_fault}

@@ -5,14 +5,14 @@ use Rattle.hm_insertion.proofs.parts.Parts.end_page.Goals as goal
 pub returns-then-is_in_text-clause-err : goal.returns-then-is_in_text-clause-err
 returns-then-is_in_text-clause-err c =
     let p = c.args.self.now in
-    rw c.from.ensures (over_text p.maker p.path p.drops_line_feed p.behind_body p.behind_html p.insertion_mode (sym c.is_in_text.ensures ∙ c.if-is_in_text.true))
+    rw c.from.ensures (over_text p.maker p.path p.drops_line_feed p.comments_after_body p.comments_after_html p.insertion_mode (sym c.is_in_text.ensures ∙ c.if-is_in_text.true))
 
 pub returns-in-Some-clause-err : goal.returns-in-Some-clause-err
 returns-in-Some-clause-err c =
     let p = c.args.self.now in
     let no_text = sym c.is_in_text.ensures ∙ c.if-is_in_text.false in
     rw c.from-in-Some.ensures
-    (subst (λ o. Over p.maker p.path p.drops_line_feed p.behind_body p.behind_html p.insertion_mode o) (sym c.in-Some.ensures) (over p.maker p.path p.drops_line_feed p.behind_body p.behind_html p.insertion_mode no_text c.requires.kept.fresh))
+    (subst (λ o. Over p.maker p.path p.drops_line_feed p.comments_after_body p.comments_after_html p.insertion_mode o) (sym c.in-Some.ensures) (over p.maker p.path p.drops_line_feed p.comments_after_body p.comments_after_html p.insertion_mode no_text c.requires.kept.fresh))
 
 pub make_missing-requires-clause-room : goal.make_missing-requires-clause-room
 make_missing-requires-clause-room c =

@@ -86,7 +86,7 @@ mixed_text-requires-clause-room c =
     let p = c.args.self.now in
     let plain = sym c.is_in_text.ensures ∙ c.if-is_in_text.false in
     let mixed = mixed_step p c.requires.all c.args.text.now c.split_blank.result.0.now c.split_blank.result.1.now c.split_blank.ensures (is_some _ (sym c.is_empty.ensures ∙ c.if-is_empty.false)) plain in
-    fits_by _ (mixed_events p.insertion_mode c.split_blank.result.0.now c.split_blank.result.1.now) (at_state InBody (body_path p.insertion_mode p.path) p.behind_body.items p.behind_html.items) p.maker
+    fits_by _ (mixed_events p.insertion_mode c.split_blank.result.0.now c.split_blank.result.1.now) (at_state InBody (body_path p.insertion_mode p.path) p.comments_after_body.items p.comments_after_html.items) p.maker
     (mixed_went p c.requires.all c.args.text.now c.split_blank.result.0.now c.split_blank.result.1.now mixed (sym c.in_default.ensures)) c.requires.room
 
 pub returns : goal.returns

@@ -2,7 +2,7 @@ use Rattle.std.proofs.Common.{sym, subst}
 use Rattle.hm_construction_laws.specs.Steps.{Stepped}
 use Rattle.hm_insertion.specs.Building.{Fits}
 use Rattle.hm_insertion.specs.Inside.{Takes}
-use Rattle.hm_insertion.proofs.Started.{before_body, start_initial, start_behind_body, start_before, start_here}
+use Rattle.hm_insertion.proofs.Started.{before_body, start_initial, start_after_body, start_before, start_here}
 use Rattle.hm_insertion.proofs.parts.Parts.start_undropped.Goals as goal
 
 pub start_in_body-requires-clause-room : goal.start_in_body-requires-clause-room
@@ -37,4 +37,4 @@ pub returns-in-Initial : goal.returns-in-Initial
 returns-in-Initial c = rw c.from.ensures (start_initial c.args.self.now c.args.name.now c.args.attrs.now c.args.slash c.in-Initial.is)
 
 pub returns-in-AfterBody : goal.returns-in-AfterBody
-returns-in-AfterBody c = rw c.from-in-AfterBody.ensures (start_behind_body c.args.self.now c.args.name.now c.args.attrs.now c.args.slash c.in-AfterBody.is)
+returns-in-AfterBody c = rw c.from-in-AfterBody.ensures (start_after_body c.args.self.now c.args.name.now c.args.attrs.now c.args.slash c.in-AfterBody.is)

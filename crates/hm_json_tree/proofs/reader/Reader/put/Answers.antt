@@ -21,4 +21,4 @@ returns-clause-at c =
     let old = c.args.self.now in
     let at = c.requires.at in
     let e = told old.path c.args.form.now in
-    goes_on old e at (c.requires.sound at.past at.seen at.path_is) _ (c.behind-seen.ensures at.past at.seen at.path_is) c.in_ok-put_event.ensures.maker c.in_ok-put_event.ensures.path (c.in_ok-bytes.ensures.sum old.path) c.in_ok-bytes.ensures.room refl c.if-self-ge-MOST_EVENTS.false
+    goes_on old e at (c.requires.sound at.past at.seen at.path_is) _ (c.after-seen.ensures at.past at.seen at.path_is) c.in_ok-put_event.ensures.maker c.in_ok-put_event.ensures.path (c.in_ok-bytes.ensures.sum old.path) c.in_ok-bytes.ensures.room refl c.if-self-ge-MOST_EVENTS.false

@@ -3,21 +3,21 @@ use Rattle.hm_tree.specs.Lexemes.{token_of}
 use Rattle.hm_lexer.specs.Modes.{mode_of}
 use Rattle.hm_base.specs.Source.{place_in}
 use Rattle.hm_lexer.specs.Reading.{Reading, Refuses, IsTaken, text_of}
-use Rattle.hm_lexer.specs.Steps.{IsBehind, refusal_of}
+use Rattle.hm_lexer.specs.Steps.{IsAfterNothing, refusal_of}
 use Rattle.hm_lexer.proofs.Nexts.{next_ends, next_taken, next_refused}
 use Rattle.hm_lexer.proofs.lexer.Lexer.next_into.Goals as goal
 
 pub returns-then-from-text-clause-ok : goal.returns-then-from-text-clause-ok
 returns-then-from-text-clause-ok c =
-    let b : IsBehind (mode_of c.args.mode) (text_of c.args.self.now) c.args.self.now.at c.token_start-from.result =
-    subst (λ (r : Reading). IsBehind (mode_of c.args.mode) (text_of r) r.at c.token_start-from.result) c.self.view_is (rw c.text-text.ensures.bytes at c.token_start-from.ensures) in
+    let b : IsAfterNothing (mode_of c.args.mode) (text_of c.args.self.now) c.args.self.now.at c.token_start-from.result =
+    subst (λ (r : Reading). IsAfterNothing (mode_of c.args.mode) (text_of r) r.at c.token_start-from.result) c.self.view_is (rw c.text-text.ensures.bytes at c.token_start-from.ensures) in
     let text : length c.text-text.result.now ≡ length (text_of c.args.self.now) = ap length (c.text-text.ensures.bytes ∙ ap text_of c.self.view_is) in
     (next_ends c.args.self.now (mode_of c.args.mode) c.token_start-from.result b (omega (arith, c.if-from-text.true)), refl)
 
 pub returns-in-Ok-clause-ok : goal.returns-in-Ok-clause-ok
 returns-in-Ok-clause-ok c =
-    let b : IsBehind (mode_of c.args.mode) (text_of c.args.self.now) c.args.self.now.at c.token_start-from.result =
-    subst (λ (r : Reading). IsBehind (mode_of c.args.mode) (text_of r) r.at c.token_start-from.result) c.self.view_is (rw c.text-text.ensures.bytes at c.token_start-from.ensures) in
+    let b : IsAfterNothing (mode_of c.args.mode) (text_of c.args.self.now) c.args.self.now.at c.token_start-from.result =
+    subst (λ (r : Reading). IsAfterNothing (mode_of c.args.mode) (text_of r) r.at c.token_start-from.result) c.self.view_is (rw c.text-text.ensures.bytes at c.token_start-from.ensures) in
     let text : length c.text-text.result.now ≡ length (text_of c.args.self.now) = ap length (c.text-text.ensures.bytes ∙ ap text_of c.self.view_is) in
     let high : c.token_start-from.result ≤ length (text_of c.args.self.now) = b.boundary.0 in
     let low : c.token_start-from.result < length (text_of c.args.self.now) = omega (arith, c.if-from-text.false) in
@@ -27,8 +27,8 @@ returns-in-Ok-clause-ok c =
 
 pub returns-in-Err-clause-err : goal.returns-in-Err-clause-err
 returns-in-Err-clause-err c =
-    let b : IsBehind (mode_of c.args.mode) (text_of c.args.self.now) c.args.self.now.at c.token_start-from.result =
-    subst (λ (r : Reading). IsBehind (mode_of c.args.mode) (text_of r) r.at c.token_start-from.result) c.self.view_is (rw c.text-text.ensures.bytes at c.token_start-from.ensures) in
+    let b : IsAfterNothing (mode_of c.args.mode) (text_of c.args.self.now) c.args.self.now.at c.token_start-from.result =
+    subst (λ (r : Reading). IsAfterNothing (mode_of c.args.mode) (text_of r) r.at c.token_start-from.result) c.self.view_is (rw c.text-text.ensures.bytes at c.token_start-from.ensures) in
     let text : length c.text-text.result.now ≡ length (text_of c.args.self.now) = ap length (c.text-text.ensures.bytes ∙ ap text_of c.self.view_is) in
     let high : c.token_start-from.result ≤ length (text_of c.args.self.now) = b.boundary.0 in
     let low : c.token_start-from.result < length (text_of c.args.self.now) = omega (arith, c.if-from-text.false) in

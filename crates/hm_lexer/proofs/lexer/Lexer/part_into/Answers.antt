@@ -5,7 +5,7 @@ use Rattle.hm_scan.specs.Texts.{begins_markup}
 use Rattle.hm_lexer.specs.Reading.{Reading, text_of}
 use Rattle.hm_lexer.specs.Modes.{mode_of}
 use Rattle.hm_lexer.specs.Parts.{IsWhole, left_of}
-use Rattle.hm_lexer.specs.Steps.{IsBehind}
+use Rattle.hm_lexer.specs.Steps.{IsAfterNothing}
 use Rattle.hm_lexer.proofs.PartSteps.{none_ready, whole_markup, whole_text}
 use Rattle.hm_lexer.proofs.TagsFirst.{whole_tag}
 use Rattle.hm_lexer.proofs.lexer.Lexer.part_into.Goals as goal
@@ -15,16 +15,16 @@ whole_part-requires c = whole_text c.args.self.now.names (mode_of c.args.mode) (
 
 pub returns-then-begin-text-clause-ok : goal.returns-then-begin-text-clause-ok
 returns-then-begin-text-clause-ok c =
-    let b : IsBehind (mode_of c.args.mode) (text_of c.args.self.now) c.args.self.now.at c.token_start-begin.result =
-    subst (λ (r : Reading). IsBehind (mode_of c.args.mode) (text_of r) r.at c.token_start-begin.result) c.self.view_is (rw c.text-text.ensures.bytes at c.token_start-begin.ensures) in
+    let b : IsAfterNothing (mode_of c.args.mode) (text_of c.args.self.now) c.args.self.now.at c.token_start-begin.result =
+    subst (λ (r : Reading). IsAfterNothing (mode_of c.args.mode) (text_of r) r.at c.token_start-begin.result) c.self.view_is (rw c.text-text.ensures.bytes at c.token_start-begin.ensures) in
     let text : length c.text-text.result.now ≡ length (text_of c.args.self.now) = ap length (c.text-text.ensures.bytes ∙ ap text_of c.self.view_is) in
     let none : drop c.token_start-begin.result (text_of c.args.self.now) ≡ [] = drop_all c.token_start-begin.result (text_of c.args.self.now) (omega (arith, c.if-begin-text.true)) in
     (none_ready c.args.self.now.names (mode_of c.args.mode) (left_of c.args.self.now) (drop c.token_start-begin.result (text_of c.args.self.now)) _ (sym c.if-not-has_markup.ensures) b.is none, refl)
 
 pub whole_part-requires-then-begins_markup : goal.whole_part-requires-then-begins_markup
 whole_part-requires-then-begins_markup c =
-    let b : IsBehind (mode_of c.args.mode) (text_of c.args.self.now) c.args.self.now.at c.token_start-begin.result =
-    subst (λ (r : Reading). IsBehind (mode_of c.args.mode) (text_of r) r.at c.token_start-begin.result) c.self.view_is (rw c.text-text.ensures.bytes at c.token_start-begin.ensures) in
+    let b : IsAfterNothing (mode_of c.args.mode) (text_of c.args.self.now) c.args.self.now.at c.token_start-begin.result =
+    subst (λ (r : Reading). IsAfterNothing (mode_of c.args.mode) (text_of r) r.at c.token_start-begin.result) c.self.view_is (rw c.text-text.ensures.bytes at c.token_start-begin.ensures) in
     let text : length c.text-text.result.now ≡ length (text_of c.args.self.now) = ap length (c.text-text.ensures.bytes ∙ ap text_of c.self.view_is) in
     let begins : begins_markup (drop c.token_start-begin.result (text_of c.args.self.now)) ≡ true =
     subst (λ (r : Reading). begins_markup (drop c.token_start-begin.result (text_of r)) ≡ true) c.self.view_is (rw c.text-text.ensures.bytes at (sym c.if-begins_markup.ensures)) in

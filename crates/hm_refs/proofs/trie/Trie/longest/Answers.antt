@@ -10,7 +10,7 @@ returns-then-text-ne38-clause-found c = no_amp c.args.self.now.entries c.root-no
 
 pub loop-byte-init : goal.loop-byte-init
 loop-byte-init c =
-    let whole = amp_first c.args.text.now (some_text c.args.text.now c.if-is_empty.ensures) c.if-text-ne38.false ∙ ap (λ r. 38 ∷ r) (sym c.behind_first-byte-items.ensures) in
+    let whole = amp_first c.args.text.now (some_text c.args.text.now c.if-is_empty.ensures) c.if-text-ne38.false ∙ ap (λ r. 38 ∷ r) (sym c.after_first_byte-byte-items.ensures) in
     sought_first c.args.self.now c.args.text.now _ c.root-node.result c.root-node.ensures.names c.root-node.ensures.node c.root-node.ensures.front whole
 
 pub returns-in_default-clause-found : goal.returns-in_default-clause-found

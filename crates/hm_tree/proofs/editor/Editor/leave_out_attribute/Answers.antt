@@ -1,5 +1,5 @@
 use Rattle.std.proofs.Common.{◌-◌, ◌<◌, IfSome, string_bytes, sym, subst, arith}
-use Rattle.hm_tree.specs.declared.starts.Own.{Own}
+use Rattle.hm_tree.specs.declared.starts.AttributeRange.{AttributeRange}
 use Rattle.hm_tree.proofs.ChangedLemmas.{has_at, leaves_attribute, range, row_there}
 use Rattle.hm_tree.proofs.NextLemmas.{no_attribute}
 use Rattle.hm_tree.proofs.PartLemmas.{is_start, one_fewer}
@@ -33,7 +33,7 @@ move_in_part-requires-clause-there c =
 pub fewer-requires : goal.fewer-requires
 fewer-requires c =
     let i = c.self.inside in
-    subst (λ o. IfSome o (λ (own : Own). 0 < own.count)) c.in-Some.ensures (omega (arith, has_at (string_bytes i.text) i.attributes.items i.rows.items i.done i.next i.parent c.self.invariant c.args.self.now c.self.view_is c.index-row.result.now c.index-row.ensures (row_there (string_bytes i.text) i.attributes.items i.rows.items i.done i.next i.parent c.self.invariant c.args.self.now c.self.view_is c.args.at c.requires) c.in-Some.own.first c.in-Some.own.count (is_start c.index-row.result.now.part c.in-Some.own (sym c.in-Some.ensures)) c.args.at c.requires))
+    subst (λ o. IfSome o (λ (own : AttributeRange). 0 < own.count)) c.in-Some.ensures (omega (arith, has_at (string_bytes i.text) i.attributes.items i.rows.items i.done i.next i.parent c.self.invariant c.args.self.now c.self.view_is c.index-row.result.now c.index-row.ensures (row_there (string_bytes i.text) i.attributes.items i.rows.items i.done i.next i.parent c.self.invariant c.args.self.now c.self.view_is c.args.at c.requires) c.in-Some.own.first c.in-Some.own.count (is_start c.index-row.result.now.part c.in-Some.own (sym c.in-Some.ensures)) c.args.at c.requires))
 
 pub index_mut-requires : goal.index_mut-requires
 index_mut-requires c =

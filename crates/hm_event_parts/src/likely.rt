@@ -1,0 +1,46 @@
+//! Names by their length and first byte. They set most names in pages apart from those that a rule of tags names,
+//! without a search through a list.
+ghost use Rattle.std.specs.Prelude.{◌≡◌};
+ghost use Rattle.hm_event_parts.specs.Likely as likely;
+
+/// Whether the name is like those of void elements.
+pub(crate) fn may_be_void(name: &str) -> bool
+    ensures { result ≡ likely.like_void name.now }
+{
+    match name.as_bytes() {
+        [a, _] => *a == b'b' || *a == b'h',
+        [a, _, _] => *a == b'c' || *a == b'i' || *a == b'w',
+        [a, _, _, _] => *a == b'a' || *a == b'b' || *a == b'l' || *a == b'm',
+        [a, _, _, _, _] => *a == b'e' || *a == b'i' || *a == b'p' || *a == b't',
+        [a, _, _, _, _, _] => *a == b's',
+        _ => false,
+    }
+}
+
+/// Whether the name is like those of `html`, `head` and `body`, of `colgroup`, and of the sections of a table.
+pub(crate) fn may_be_page_part(name: &str) -> bool
+    ensures { result ≡ likely.like_part name.now }
+{
+    match name.as_bytes() {
+        [a, _, _, _] => *a == b'h' || *a == b'b',
+        [a, _, _, _, _] => *a == b't',
+        [a, _, _, _, _, _, _, _] => *a == b'c',
+        _ => false,
+    }
+}
+
+/// Whether the name is like those of elements whose end tag may be left out.
+pub(crate) fn may_have_optional_end(name: &str) -> bool
+    ensures { result ≡ likely.like_ended name.now }
+{
+    match name.as_bytes() {
+        [a] => *a == b'p',
+        [a, _] => *a == b't' || *a == b'l' || *a == b'd' || *a == b'r',
+        [a, _, _, _] => *a == b'h' || *a == b'b',
+        [a, _, _, _, _] => *a == b't',
+        [a, _, _, _, _, _] => *a == b'o',
+        [a, _, _, _, _, _, _] => *a == b'c',
+        [a, _, _, _, _, _, _, _] => *a == b'c' || *a == b'o',
+        _ => false,
+    }
+}

@@ -1,5 +1,0 @@
-use Rattle.hm_feed.proofs.Faults.{faults_last}
-use Rattle.hm_feed.proofs.laws.faults_last.Goals as goal
-
-pub returns : goal.returns
-returns c = faults_last

@@ -1,6 +1,0 @@
-use Rattle.hm_feed.specs.Fed.{decided_len}
-use Rattle.hm_feed.proofs.Decisions.{decided_nonzero}
-use Rattle.hm_feed.proofs.pieces.put.Goals as goal
-
-pub grow-requires-clause-no_zero : goal.grow-requires-clause-no_zero
-grow-requires-clause-no_zero c = rw c.in-Ok.ensures.ok (decided_nonzero c.args.bytes.now (decided_len c.args.bytes.now) c.in-Ok.ensures.sound)

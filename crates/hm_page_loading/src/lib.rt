@@ -1,0 +1,11 @@
+//! Loading a page: its tree is built while its bytes come from a store, so that neither its bytes nor its text are held
+//! whole.
+#![tactic(auto)]
+
+mod fault;
+mod page;
+mod spaced;
+
+pub use fault::PageLoadFault;
+pub use hm_build::{Builder, parse, parse_closed};
+pub use page::load_page;

@@ -1,8 +1,0 @@
-pub mod Adding
-pub mod Around
-pub mod Events
-pub mod Found
-pub mod Laws
-pub mod Likely
-pub mod Parts
-pub mod Own

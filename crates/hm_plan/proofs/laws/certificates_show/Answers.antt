@@ -1,5 +1,0 @@
-use Rattle.hm_plan.proofs.Headline.{certificates_show}
-use Rattle.hm_plan.proofs.laws.certificates_show.Goals as goal
-
-pub returns : goal.returns
-returns c = certificates_show

@@ -1,5 +1,0 @@
-use Rattle.hm_plan.proofs.Headline.{shortest_is_certified}
-use Rattle.hm_plan.proofs.laws.shortest_is_certified.Goals as goal
-
-pub returns : goal.returns
-returns c = shortest_is_certified

@@ -1,5 +1,0 @@
-use Rattle.hm_plan.proofs.Walking.{PartsTaken}
-use Rattle.hm_plan.proofs.paths.take_parts.Given as goal
-
-abbrev pub invariant-loop-part : goal.invariant-loop-part
-invariant-loop-part l = PartsTaken l.graph l.parts l.part-index l.initial.way l.way

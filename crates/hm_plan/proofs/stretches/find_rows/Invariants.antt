@@ -1,6 +1,0 @@
-use Rattle.hm_plan.proofs.Found.{IsFoundFrom}
-use Rattle.hm_plan.specs.Stretches.{steps_in}
-use Rattle.hm_plan.proofs.stretches.find_rows.Given as goal
-
-abbrev pub invariant-loop-k : goal.invariant-loop-k
-invariant-loop-k l = IsFoundFrom l.last (steps_in l.stretch) l.k l.found

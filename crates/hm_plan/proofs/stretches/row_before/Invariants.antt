@@ -1,7 +1,0 @@
-use Rattle.std.proofs.Common.{◌≡◌, map, take}
-use Rattle.hm_cert.specs.Layout.{told}
-use Rattle.hm_graph.specs.Prices.{row_over}
-use Rattle.hm_plan.proofs.stretches.row_before.Given as goal
-
-abbrev pub invariant-loop-place : goal.invariant-loop-place
-invariant-loop-place l = map told l.row.items ≡ row_over (map told l.behind) (take l.place l.step)

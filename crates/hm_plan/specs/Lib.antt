@@ -1,9 +1,0 @@
-pub mod CopiedRuns
-pub mod Paths
-pub mod Plans
-pub mod Shortest
-pub mod Minified
-pub mod Laws
-pub mod Owned
-pub mod Stretches
-pub mod Direct

@@ -1,5 +1,0 @@
-use Rattle.hm_settle.specs.Elements.{path_of}
-use Rattle.hm_settle.proofs.plan.marks_on.Goals as goal
-
-pub returns : goal.returns
-returns c = c.at.ensures (path_of c.args.elements.now) c.marks.ensures

@@ -1,0 +1,9 @@
+pub mod CopiedRuns
+pub mod Paths
+pub mod Plans
+pub mod Shortest
+pub mod Minified
+pub mod Laws
+pub mod UnitTextBuf
+pub mod Stretches
+pub mod Direct

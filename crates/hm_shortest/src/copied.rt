@@ -1,0 +1,16 @@
+//! Steps that copy a byte.
+ghost use Rattle.std.specs.Prelude.{IsTrue};
+ghost use Rattle.hm_shortest.specs.CopiedRuns.{IsCopied};
+
+use hm_graph::Step;
+
+/// Whether a step has nothing to choose, and its hop from a place copies one byte and leads to the same place.
+#[inline(always)]
+pub(crate) fn is_copied(step: &Step, place: Option<usize>) -> bool
+    ensures { IsTrue result → IsCopied step.now place }
+{
+    match place {
+        Some(place) => step.is_forced() && step.copies(place),
+        None => false,
+    }
+}

@@ -6,7 +6,7 @@ use std::alloc::{AllocError, AllocFailed};
 use std::convert::AsStr;
 use std::marker::Model;
 
-/// There is no memory: the error of each call that fails for no other reason.
+/// An allocation failed: the error of each call that fails for no other reason.
 #[derive(Clone, Copy, Debug, PartialEq, Eq)]
 pub struct OutOfMemory;
 

@@ -119,7 +119,7 @@ impl Rule {
     }
 }
 
-/// Why no page is given: a rule refuses it at the byte `at` of the page, or there is no memory.
+/// Why no page is given: a rule refuses it at the byte `at` of the page, or an allocation failed.
 #[derive(Clone, Copy, Debug, PartialEq, Eq)]
 pub enum Refused {
     Page { rule: Rule, at: u32 },

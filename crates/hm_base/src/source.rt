@@ -26,7 +26,7 @@ pub enum TextFault {
     /// The byte `at` is the first zero.
     #[error("a zero byte at {at}")]
     Nul { at: u32 },
-    /// There is no memory.
+    /// An allocation failed.
     #[error("out of memory")]
     OutOfMemory,
 }
@@ -188,7 +188,7 @@ impl SourceText {
         self.start + self.text.len() as u32 + self.pairs.len() as u32
     }
 
-    /// Drops the first `n` bytes of the text. The others keep their places in the page. It takes no memory.
+    /// Drops the first `n` bytes of the text. The others keep their places in the page. It allocates nothing.
     pub fn drop_front(&mut self, n: u32)
         requires inside { n ≤ length self.old.placed }
         requires boundary { IsCharBoundary (map byte_of self.old.placed) n }

@@ -93,7 +93,7 @@ impl<'a> WrittenRows<'a> {
     }
 
     /// Reads the row before a place into a list, whose old items are dropped. An infinite price is `INFINITE`. The
-    /// place moves before that row. Without memory it doesn't move.
+    /// place moves before that row. If an allocation fails, it doesn't move.
     pub fn row_before(
         &self,
         place: &mut RowPlace<'a>,

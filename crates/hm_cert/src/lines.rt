@@ -21,7 +21,7 @@ pub enum CertificateFault {
     TooLong,
     /// The first line that breaks the format, counted from 1.
     BadLine { line: u32 },
-    /// There is no memory.
+    /// An allocation failed.
     OutOfMemory,
 }
 

@@ -64,7 +64,7 @@ impl Model for Prices {
 }
 
 impl Prices {
-    /// No rows. It takes no memory until a row is added.
+    /// No rows. It allocates nothing until a row is added.
     pub fn new(alloc: Global) -> Prices
         ensures { result ≡ [] }
     {

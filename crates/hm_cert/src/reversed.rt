@@ -131,7 +131,7 @@ fn add(bytes: &mut Vec<u8>, len: &mut usize, more: &[u8]) -> Result<(), OutOfMem
     Ok(())
 }
 
-/// Appends the first two lines, last byte first. Without memory a part of them may have been appended.
+/// Appends the first two lines, last byte first. If an allocation fails, a part of them may have been appended.
 fn put_head_reversed(
     out: &mut Vec<u8>,
     format: Format,
@@ -149,7 +149,7 @@ fn put_head_reversed(
     put_bytes(out, format_text(format))
 }
 
-/// Appends the line of a row, last byte first. Without memory a part of it may have been appended.
+/// Appends the line of a row, last byte first. If an allocation fails, a part of it may have been appended.
 fn put_line_reversed(out: &mut Vec<u8>, row: &[u64]) -> Result<(), OutOfMemory>
     ensures { OnOk result (out.new.items ≡ out.old.items ++ reverse (row_line (map told row.now))) }
 {

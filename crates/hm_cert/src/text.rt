@@ -37,7 +37,7 @@ pub fn write_certificate(
     Ok(out)
 }
 
-/// Appends the first two lines. Without memory a part of them may have been appended.
+/// Appends the first two lines. If an allocation fails, a part of them may have been appended.
 pub fn put_head(out: &mut Vec<u8>, format: Format, rules: SpellRules) -> Result<(), OutOfMemory>
     ensures { OnOk result (out.new.items ≡ out.old.items ++ head_lines format rules) }
 {
@@ -63,7 +63,7 @@ fn put_flag(out: &mut Vec<u8>, is_set: bool, word: &[u8]) -> Result<(), OutOfMem
     Ok(())
 }
 
-/// Appends the line of a row. Without memory a part of it may have been appended.
+/// Appends the line of a row. If an allocation fails, a part of it may have been appended.
 pub fn put_line(out: &mut Vec<u8>, row: &[u64]) -> Result<(), OutOfMemory>
     ensures { OnOk result (out.new.items ≡ out.old.items ++ row_line (map told row.now)) }
 {

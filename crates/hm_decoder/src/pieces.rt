@@ -25,7 +25,7 @@ pub struct TextPieces {
     count: u32,
     limit: u32,
     fault: Option<(Rule, u32)>,
-    /// There was no memory for an earlier piece.
+    /// An allocation failed earlier.
     is_broken: bool,
     alloc: Global,
 }
@@ -164,7 +164,7 @@ impl TextPieces {
     /// Reads the next bytes of the page (HTML Standard, #the-input-byte-stream). A piece may end anywhere, also inside
     /// a character or a line end.
     ///
-    /// Once there was no memory, each later call of this and of `finish` fails. After a fault the bytes are only
+    /// After a failed allocation each later call of this and of `finish` fails. After a fault the bytes are only
     /// counted, for the limit.
     pub fn feed(&mut self, piece: &[u8]) -> Result<(), OutOfMemory>
         ensures fed { OnOk result ((gone : List PlacedByte) (fed : List ℕ) → HasFed self.old gone fed → HasFed self.new gone (fed ++ piece.now)) }
@@ -194,7 +194,7 @@ impl TextPieces {
 
     /// Ends the page: a CR at its end is a line end, and an incomplete character there is a fault.
     ///
-    /// It can fail for lack of memory, since the line end takes a byte.
+    /// It can fail, since the line end needs a byte.
     pub fn finish(&mut self) -> Result<(), OutOfMemory>
         ensures page { OnOk result ((gone : List PlacedByte) (page : List ℕ) → HasFed self.old gone page → HasPage self.new gone page) }
         ensures sound { OnOk result (self.old.is_broken ≡ false) }
@@ -238,7 +238,7 @@ impl TextPieces {
         self.source.release();
     }
 
-    /// Drops the first `n` bytes of the text. The others keep their places in the page. It takes no memory.
+    /// Drops the first `n` bytes of the text. The others keep their places in the page. It allocates nothing.
     pub fn drop_front(&mut self, n: u32)
         requires inside { n ≤ length self.old.source.placed }
         requires boundary { IsCharBoundary (map byte_of self.old.source.placed) n }

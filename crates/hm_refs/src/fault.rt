@@ -36,7 +36,7 @@ pub enum TableFault {
     /// A name without `;`, while the same name with `;` is missing or has other code points.
     #[error("Lone {}", .key.text)]
     Lone { key: OwnedText },
-    /// There is no memory.
+    /// An allocation failed.
     #[error("Memory")]
     OutOfMemory,
 }

@@ -22,7 +22,7 @@ pub struct ReadyNames {
     pub seconds: &'static [char],
 }
 
-/// The trie of such names: a node for each front of a name. Shorter ones come first, and those of one length are in
+/// The trie of such names: a node for each prefix of a name. Shorter ones come first, and those of one length are in
 /// byte order. `places` has an item for each name, the other lists have one for each node.
 #[derive(Clone, Copy)]
 pub struct ReadyNodes {

@@ -79,7 +79,7 @@ impl Sink for MemSink {
     ghost faults = { λ s. s.calls.faults };
 
     /// Fails if the call is to fail, and changes nothing then. A torn call appends its first bytes and fails. Any other
-    /// call fails only for lack of memory, and changes nothing then.
+    /// call fails only if an allocation fails, and changes nothing then.
     fn put(&mut self, bytes: &[u8]) -> Result<(), Failed>
         ensures listed { IsTrue (fails_next self.old.calls) → IsErr result × (self.new.bytes ≡ self.old.bytes) }
         ensures torn { IsSome (tear_next self.old.tears) → IsErr result }

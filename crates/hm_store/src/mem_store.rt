@@ -193,7 +193,7 @@ impl Store for MemStore {
         }
     }
 
-    /// Fails if the call is to fail, and otherwise only for lack of memory. The files are then unchanged.
+    /// Fails if the call is to fail, and otherwise only if an allocation fails. The files are then unchanged.
     fn open_out(&mut self, name: &str) -> Result<(), Failed>
         ensures listed { IsTrue (fails_next self.old.calls) → IsErr result }
         ensures ok { OnOk result (self.new ≡ record self.old {
@@ -221,7 +221,7 @@ impl Store for MemStore {
     }
 
     /// Fails if the call is to fail, and the files are then unchanged. A torn call appends its first bytes and fails.
-    /// Any other call fails only for lack of memory, and changes no file then.
+    /// Any other call fails only if an allocation fails, and changes no file then.
     fn put(&mut self, bytes: &[u8]) -> Result<(), Failed>
         requires { is_some self.old.writing ≡ true }
         ensures listed { IsTrue (fails_next self.old.calls) → IsErr result × (self.new.files ≡ self.old.files) }

@@ -13,7 +13,7 @@ use std::alloc::{AllocError, Global};
 pub enum LoadFault {
     /// A call on the store has failed, or the store has no such file.
     Store,
-    /// There is no memory for the bytes.
+    /// The allocation for the bytes failed.
     OutOfMemory,
 }
 

@@ -40,7 +40,7 @@ impl Model for Attrs {
 }
 
 impl Attrs {
-    /// No attributes. It takes no memory until one is added.
+    /// No attributes. It allocates nothing until one is added.
     pub fn new(alloc: Global) -> Attrs
         ensures { result ≡ [] }
     {
@@ -87,8 +87,8 @@ impl Attrs {
         self.pairs.as_slice()
     }
 
-    /// Appends an attribute, unless its name is already there, and returns whether it did. Without memory nothing
-    /// changes.
+    /// Appends an attribute, unless its name is already there, and returns whether it did. If an allocation fails,
+    /// nothing changes.
     pub fn add(&mut self, name: String, value: String) -> Result<bool, OutOfMemory>
         requires room { has_name (string_bytes name) self.old ≡ false → length self.old + 1 < 2 ^ 32 }
         ensures there { IfOk result (λ added. added ≡ not (has_name (string_bytes name) self.old)) }

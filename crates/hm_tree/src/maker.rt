@@ -34,7 +34,7 @@ impl Model for Maker {
 }
 
 impl Maker {
-    /// No events. It takes no memory until one is added.
+    /// No events. It allocates nothing until one is added.
     pub(crate) fn new(alloc: Global) -> Maker
         ensures { result ≡ [] }
     {

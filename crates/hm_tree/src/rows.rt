@@ -86,7 +86,7 @@ impl Model for Rows {
 }
 
 impl Rows {
-    /// No events. It takes no memory.
+    /// No events. It allocates nothing.
     pub(crate) fn new(alloc: Global) -> Rows
         ensures { result ≡ [] }
     {

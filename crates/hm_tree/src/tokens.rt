@@ -54,7 +54,7 @@ pub struct Tag {
 }
 
 impl Tag {
-    /// No name and no attributes. It takes no memory until a tag is put there.
+    /// No name and no attributes. It allocates nothing until a tag is put there.
     pub fn new(alloc: Global) -> Tag
         ensures name { string_bytes result.name ≡ [] }
         ensures attrs { result.attrs ≡ [] }

@@ -31,7 +31,7 @@ impl Model for Tree {
 }
 
 impl Tree {
-    /// A maker of a tree. It takes no memory until an event is added.
+    /// A maker of a tree. It allocates nothing until an event is added.
     pub fn maker(alloc: Global) -> Maker
         ensures { result ≡ [] }
     {

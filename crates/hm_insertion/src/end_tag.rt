@@ -117,7 +117,7 @@ impl Parts {
         Ok(())
     }
 
-    /// Makes what is missing up to `body`, and leaves the body at once, for the mode `insertion_mode`
+    /// Makes what is missing up to `body`, and leaves the body at once: `insertion_mode` is the next mode
     /// (#parsing-main-inbody).
     fn leave_unbegun(
         &mut self,
@@ -190,7 +190,7 @@ impl Parts {
         self.end_named(name)
     }
 
-    /// Leaves the body, if nothing but a `p` is open in it, for the mode `insertion_mode` (#parsing-main-inbody).
+    /// Leaves the body, if nothing but a `p` is open in it: `insertion_mode` is the next mode (#parsing-main-inbody).
     fn leave_body(&mut self, insertion_mode: BuilderMode) -> Result<(), BuildFault>
         requires kept { IsKept self.old }
         requires here { self.old.insertion_mode ≡ BuilderMode.InBody }

@@ -61,8 +61,8 @@ impl Parts {
     }
 }
 
-/// Why the page may not end here, if it may not (#the-initial-insertion-mode, #parsing-main-inheadnoscript,
-/// #parsing-main-inbody).
+/// The rule by which the page may not end here, if there is one (#the-initial-insertion-mode,
+/// #parsing-main-inheadnoscript, #parsing-main-inbody).
 fn end_rule(insertion_mode: BuilderMode, path: &Path) -> Option<Rule>
     ensures { result ≡ inside.end_rule insertion_mode path.now }
 {

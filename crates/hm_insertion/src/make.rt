@@ -11,8 +11,8 @@ use hm_base::OutOfMemory;
 use hm_tree::{Attrs, Maker};
 use std::alloc::Global;
 
-/// Makes what is missing up to `body`, and closes `head`, for the mode `insertion_mode`
-/// (#the-before-html-insertion-mode to #the-after-head-insertion-mode).
+/// Makes what is missing up to `body` in the mode `insertion_mode`, and closes `head` (#the-before-html-insertion-mode
+/// to #the-after-head-insertion-mode).
 #[inline(always)]
 pub(crate) fn make_missing(
     alloc: Global,

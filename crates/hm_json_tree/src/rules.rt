@@ -82,7 +82,7 @@ fn keeps_void_empty(seen: &Seen, form: &JsonEvent<'_>) -> bool
     !seen.void || matches!(form, JsonEvent::End)
 }
 
-/// Whether texts are as the rules allow: without a zero byte, no two of them neighbours, and with nothing beside them in an
+/// Whether texts follow the rules: without a zero byte, no two of them neighbours, and with nothing beside them in an
 /// element that holds one text.
 #[tactic(auto, unfolding(hm_elements::specs::Settled::is_text_in_place))]
 fn is_text_in_place(seen: &Seen, path: &OpenElements, form: &JsonEvent<'_>) -> bool
@@ -117,7 +117,7 @@ fn is_comment_in_form(form: &JsonEvent<'_>) -> bool
     }
 }
 
-/// Whether no more elements are open after an event than are allowed.
+/// Whether at most as many elements as allowed are open after an event.
 #[tactic(auto, unfolding(hm_elements::specs::Settled::is_not_deep, hm_elements::specs::Paths::is_deep))]
 fn is_not_deep(path: &OpenElements, form: &JsonEvent<'_>) -> bool
     ensures { result ≡ settled.is_not_deep path.now (told path.now form.now) [] }

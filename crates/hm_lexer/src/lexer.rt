@@ -35,8 +35,8 @@ struct TextEnd {
 ///
 /// Contracts see the named character references, the text with its places, and how many of its bytes were read.
 ///
-/// To read a token the lexer looks no further than the end of the token. Before a character reference a piece of text
-/// ends, and it looks to the end of that reference. If a token has no end, it looks to the end of the text, and the
+/// To read a token the lexer looks no further than the end of the token. If a piece of text ends before a character
+/// reference, it looks to the end of that reference. If a token has no end, it looks to the end of the text, and the
 /// page is refused. So all tokens of a page together take time linear in it. In title, textarea, style, iframe and
 /// script the first token searches for the end tag of the element. The later pieces of a title or a textarea don't
 /// search again.

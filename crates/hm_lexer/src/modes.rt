@@ -46,7 +46,7 @@ impl RawName {
 pub enum Mode {
     /// Ordinary text: tags, comments, doctypes, and the text between them.
     Html,
-    /// The same in an element of SVG, which may also have CDATA sections (#markup-declaration-open-state).
+    /// As `Html`, but in an element of SVG, where CDATA sections are read too (#markup-declaration-open-state).
     Foreign,
     /// The text of a title or a textarea, and its end tag.
     Rcdata { name: RcdataName },

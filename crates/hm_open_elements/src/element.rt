@@ -139,7 +139,7 @@ impl ScopeFlags {
     }
 }
 
-/// Whether a `p` with no boundary below it is open at an element. `outside` is the answer for its parent.
+/// Whether a `p` is open at an element, with no boundary between them. `outside` is the answer for its parent.
 #[inline(always)]
 fn is_paragraph_open(name: Named<'_>, foreign: bool, outside: bool) -> bool
     ensures { result ≡ (bytes_eq name.entry.name.now p || (not (tables.is_boundary name.entry.name.now foreign) && outside)) }

@@ -114,7 +114,7 @@ fn plan_in_html(elements: &[OpenElement], tag: Named<'_>) -> Result<MovePlan, Ru
     })
 }
 
-/// How many elements stay after those that the start tag closes.
+/// How many elements the start tag leaves open.
 fn left_by_start(elements: &[OpenElement], tag: Named<'_>) -> usize
     requires { IsPath elements.now }
     ensures least { 2 ≤ result }
@@ -194,7 +194,7 @@ fn stands(elements: &[OpenElement], made: Made, tag: Named<'_>) -> bool
     }
 }
 
-/// How many elements stay after an end tag of this name.
+/// How many elements an end tag of this name leaves open.
 #[inline(always)]
 pub(crate) fn left_by_end(elements: &[OpenElement], name: &str) -> Result<usize, Rule>
     requires path { IsPath elements.now }
@@ -217,7 +217,7 @@ pub(crate) fn left_by_end(elements: &[OpenElement], name: &str) -> Result<usize,
     }
 }
 
-/// How many elements stay after those whose ends the end tag implies.
+/// How many elements are open after all ends that the end tag implies.
 fn reached_by_end(elements: &[OpenElement], name: &str) -> usize
     requires { IsPath elements.now }
     ensures { IsReached elements.now name.now result }
@@ -229,7 +229,7 @@ fn reached_by_end(elements: &[OpenElement], name: &str) -> usize
     }
 }
 
-/// How many elements stay after those that an end tag of another name closes
+/// How many elements are open after all ends that an end tag of another name implies
 /// (#closing-elements-that-have-implied-end-tags).
 fn left_by_implied_ends(elements: &[OpenElement], name: &str) -> usize
     requires { IsPath elements.now }

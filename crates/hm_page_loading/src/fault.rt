@@ -30,7 +30,7 @@ impl From<LoadFault> for PageLoadFault {
 
     ghost from_gives = { λ load fault. fault ≡ load_fault_of load };
 
-    /// The same cause.
+    /// Keeps the cause.
     fn from(fault: LoadFault) -> Self {
         match fault {
             LoadFault::Store => PageLoadFault::Store,
@@ -45,7 +45,7 @@ impl From<Refused> for PageLoadFault {
 
     ghost from_gives = { λ refused fault. fault ≡ fault_of refused };
 
-    /// The same cause.
+    /// Keeps the cause.
     fn from(refused: Refused) -> Self {
         match refused {
             Refused::Page { rule, at } => PageLoadFault::Page { rule, at },

@@ -8,7 +8,8 @@ pub fn spellings_are_read_back()
     ensures pages { SpellingsAreReadBack }
 {}
 
-/// The same is true of the tree of each page after its rewrites, whatever the options are: such a tree is settled.
+/// Each spelling of the tree of a page after its rewrites is a page with that tree, whatever the options are, since
+/// such a tree is settled.
 pub fn rewritten_trees_are_read_back()
     ensures { RewrittenIsReadBack }
 {}

@@ -104,11 +104,11 @@ def main(words):
     file(
         "points.rt", "The code points of the names.",
         numbers("FIRSTS", "char", "The first code point of each name.", [char(p[0]) for p in points]),
-        numbers("SECONDS", "char", "The second one, or U+0000.", [char(p[1] if len(p) > 1 else 0) for p in points]),
+        numbers("SECONDS", "char", "The second code point of each name, or U+0000.", [char(p[1] if len(p) > 1 else 0) for p in points]),
     )
     file(
         "prefixes.rt", "The trie of the names: their prefixes, shorter ones first and in byte order.",
-        numbers("NAMES", "u16", "The number of the first name that begins with the prefix.", [str(n[0]) for n in trie]),
+        numbers("NAMES", "u16", "The number of the first name that starts with the prefix.", [str(n[0]) for n in trie]),
     )
     file(
         "depths.rt", "The lengths of the prefixes.",
@@ -120,16 +120,16 @@ def main(words):
     )
     file(
         "counts.rt", "The children of the prefixes.",
-        numbers("COUNTS", "u8", "How many prefixes have one byte more.", [str(n[3]) for n in trie]),
+        numbers("COUNTS", "u8", "How many children each prefix has: prefixes of one byte more.", [str(n[3]) for n in trie]),
     )
     file(
         "places.rt", "The places of the names in their trie.",
-        numbers("PLACES", "u16", "The prefix that each name is.", [str(place[name]) for name in names]),
+        numbers("PLACES", "u16", "The number of the prefix that each name is.", [str(place[name]) for name in names]),
     )
     file(
-        "index.rt", "The names in the order of their first code points; those with the same one stand in byte order.",
-        numbers("POINTS", "char", "The first code points.", [char(points[number][0]) for number in order]),
-        numbers("NUMBERS", "u16", "The numbers of the names.", [str(number) for number in order]),
+        "index.rt", "The names in the order of their first code points; those with the same one are in byte order.",
+        numbers("POINTS", "char", "The first code point of each name.", [char(points[number][0]) for number in order]),
+        numbers("NUMBERS", "u16", "The number of each name.", [str(number) for number in order]),
     )
 
 

@@ -1,4 +1,4 @@
-//! The limits of what is read and written, each in one place: code and definitions cite these.
+//! Each limit of what is read and written, in one place. Code and definitions cite these.
 
 /// The most bytes of a page.
 pub const PAGE_LIMIT: u32 = 16_777_216;
@@ -6,7 +6,7 @@ pub const PAGE_LIMIT: u32 = 16_777_216;
 /// The most bytes of a table of named character references.
 pub const TABLE_LIMIT: u32 = 1_048_576;
 
-/// The most bytes of an output that is checked. No text longer than this is read, whatever limit is asked for.
+/// The most bytes of an output that is checked. No longer text is read, whatever limit the caller gives.
 pub const OUTPUT_LIMIT: u32 = 67_108_864;
 
 /// The most bytes of a certificate that is checked.

@@ -6,7 +6,7 @@ use std::alloc::{AllocError, AllocFailed};
 use std::convert::AsStr;
 use std::marker::Model;
 
-/// Memory was refused: the error of each call that fails only for lack of memory.
+/// An allocation failed: the error of each call that fails for no other reason.
 #[derive(Clone, Copy, Debug, PartialEq, Eq)]
 pub struct OutOfMemory;
 
@@ -22,7 +22,7 @@ impl<T: Drop> From<AllocFailed<T>> for OutOfMemory {
     }
 }
 
-/// An owned text. Contracts see it as the list of its bytes.
+/// A text with its own memory. Contracts see the list of its bytes.
 #[derive(Debug, Drop)]
 pub struct OwnedText {
     pub text: String,
@@ -44,14 +44,14 @@ impl AsStr for OwnedText {
     }
 }
 
-/// The one or two code points that a name of a character reference stands for.
+/// The one or two code points that a named character reference gives.
 #[derive(Clone, Copy, PartialEq, Eq)]
 pub struct Points {
     pub first: char,
     pub second: Option<char>,
 }
 
-/// Which rewrites of the tree are asked for.
+/// Which rewrites of the tree are made.
 #[derive(Clone, Copy, PartialEq, Eq)]
 pub struct TreeOptions {
     pub doctype: bool,
@@ -73,14 +73,15 @@ pub struct SpellRules {
     pub frame: bool,
 }
 
-/// Which layers a certificate writes, and of which graph.
+/// Which layers a certificate has, and of which graph.
 #[derive(Clone, Copy, PartialEq, Eq)]
 pub enum Format {
     /// Every layer.
     Full,
     /// The first, the last, and all others but those with exactly one state that has exactly one edge.
     Compact,
-    /// In the graph without dominated edges: the first, the last, and those in which some state doesn't have exactly one edge.
+    /// In the graph without dominated edges: the first, the last, and those in which at least one state has no edge or
+    /// more than one.
     Sparse,
 }
 

@@ -15,37 +15,37 @@ pub enum Rule {
     Nul,
     /// The page ends inside a construct.
     Cut,
-    /// A tag or attribute name that isn't read.
+    /// A name of a tag or an attribute that isn't allowed.
     BadName,
     /// More attributes in one tag than the limit, repeats counted.
     TooManyAttributes,
-    /// A doctype of another form.
+    /// A doctype in a form that isn't allowed.
     BadDoctype,
-    /// Anything but whitespace and comments before the doctype, or the end.
+    /// Something other than whitespace and comments, or the end of the page, before the doctype.
     NoDoctype,
-    /// A doctype in a later place.
+    /// A doctype after the first one or in a wrong place.
     SecondDoctype,
-    /// An element that isn't read.
+    /// An element that isn't allowed.
     RefusedName,
     /// An `html`, `head` or `body` start tag out of order.
     SecondRoot,
-    /// An end tag with no open element of its name.
+    /// An end tag whose element isn't open.
     StrayEnd,
-    /// The element is open and isn't reached by implied ends.
+    /// An end tag whose element is open, with elements open inside it whose ends aren't implied.
     NotCurrent,
-    /// A block start while a `p` that isn't current would have to close.
+    /// The start of a block while a `p` is open that isn't the current element and would have to close.
     BlockInParagraph,
-    /// An element under its own kind.
+    /// An element inside one of the same kind, where that isn't allowed.
     Nested,
-    /// The element can't stand under the current one.
+    /// An element whose parent may not be the current element.
     WrongParent,
-    /// Text where only whitespace stays in place.
+    /// Text in a place that only takes whitespace.
     TextHere,
-    /// Metadata between `</head>` and body.
+    /// Metadata between `</head>` and the body.
     AfterHead,
     /// Content after `</body>` or `</html>`.
     AfterBody,
-    /// An element is open at the end whose end isn't implied.
+    /// An element is open at the end of the page, and its end isn't implied.
     Unclosed,
     /// More open elements than the limit.
     TooDeep,
@@ -56,7 +56,7 @@ pub enum Rule {
 }
 
 impl Rule {
-    /// The number of the rule, as tables of refusals list it.
+    /// The number of the rule in tables of refusals.
     pub fn number(&self) -> u8
         ensures { result ≡ number_of self.now }
     {
@@ -119,7 +119,7 @@ impl Rule {
     }
 }
 
-/// A page is refused, with the rule and its place in bytes of the page; or memory for reading it is refused.
+/// Why no page is given: a rule refuses it at the byte `at` of the page, or an allocation failed.
 #[derive(Clone, Copy, Debug, PartialEq, Eq)]
 pub enum Refused {
     Page { rule: Rule, at: u32 },

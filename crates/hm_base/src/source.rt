@@ -1,4 +1,4 @@
-//! The text of a page, with the place of each byte.
+//! The text of a page, with the byte of the page for each of its bytes.
 ghost use Rattle.std.specs.Prelude.{◌≡◌, ◌+◌, ◌≤◌, ◌++◌, ℕ, List, [], None, length, map, drop, true, IfOk, OnOk, IfErr, IsCharBoundary};
 ghost use Rattle.hm_base.specs.Bytes.{all_pass};
 ghost use Rattle.hm_base.specs.Faults.{HasText, IsRefusalOf, IsRefusedBy};
@@ -14,19 +14,19 @@ use std::marker::Model;
 use std::str;
 use thiserror::Error;
 
-/// Why a page has no text. Places count bytes of the page.
+/// Why a page has no text. Places are bytes of the page.
 #[derive(Clone, Copy, Debug, PartialEq, Eq, Error)]
 pub enum TextFault {
     /// There are more bytes than the limit.
     #[error("the page is too long")]
     TooLong,
-    /// The byte `at` begins the first sequence that isn't UTF-8.
+    /// The byte `at` starts the first sequence that isn't UTF-8.
     #[error("not UTF-8 at {at}")]
     NotUtf8 { at: u32 },
     /// The byte `at` is the first zero.
     #[error("a zero byte at {at}")]
     Nul { at: u32 },
-    /// Memory was refused.
+    /// An allocation failed.
     #[error("out of memory")]
     OutOfMemory,
 }
@@ -42,7 +42,7 @@ impl From<OutOfMemory> for TextFault {
 }
 
 impl TextFault {
-    /// The refusal of a page with this fault, where at most `limit` bytes are read.
+    /// The refusal of a page with this fault. `limit` is the most bytes that may be read.
     pub fn refusal(self, limit: u32) -> Refused
         ensures { (page : List ℕ) → IsRefusedBy self limit page → IsRefusalOf result limit page }
     {
@@ -64,15 +64,16 @@ impl TextFault {
     }
 }
 
-/// The text of a page (HTML Standard, #the-input-byte-stream): without a leading U+FEFF, each of its line ends one LF.
+/// The text of a page (HTML Standard, #the-input-byte-stream): without a leading U+FEFF, and with one LF for each line
+/// end.
 ///
-/// Contracts see its bytes, each with its place in the page, and the page's length.
+/// Contracts see its bytes, each with its place in the page, and the length of the page. Places are bytes of the page.
 #[derive(Drop)]
 pub struct SourceText {
     text: String,
-    // The byte of the page where the text starts.
+    /// The byte of the page at which the text starts.
     start: u32,
-    // The indices in `text` of the LFs that were CR LF, in order.
+    /// The indices in `text` of the LFs that were CR LF, in ascending order.
     pairs: Vec<u32>,
 }
 
@@ -89,11 +90,11 @@ impl Model for SourceText {
 }
 
 impl SourceText {
-    /// The text of the bytes of a page (#the-input-byte-stream, #preprocessing-the-input-stream). Places count bytes of the
-    /// page as it is.
+    /// The text of the bytes of a page (#the-input-byte-stream, #preprocessing-the-input-stream). Its places are bytes
+    /// of the page, before any line end is changed.
     ///
-    /// The fault is `TooLong` where there are more bytes than `limit`, else the earlier fault is reported. `OutOfMemory`
-    /// comes only where the page has a text.
+    /// The fault is `TooLong` if there are more bytes than `limit`, and else the first fault of the page. `OutOfMemory`
+    /// is only returned for a page that has a text.
     pub fn read(alloc: Global, bytes: &[u8], limit: u32) -> Result<SourceText, TextFault>
         requires { limit ≤ OUTPUT_LIMIT }
         ensures read { IfOk result (λ text. text ≡ source_of bytes.now) }
@@ -105,8 +106,8 @@ impl SourceText {
         Ok(text)
     }
 
-    /// What `read` gives, from owned bytes. Where the text is the page as it stands, without a byte order mark and
-    /// without CR, nothing is copied.
+    /// As `read`, but takes the bytes over. Nothing is copied if the page has no byte order mark and no CR, since its
+    /// bytes then are the text.
     pub fn take(alloc: Global, bytes: Vec<u8>, limit: u32) -> Result<SourceText, TextFault>
         requires { limit ≤ OUTPUT_LIMIT }
         ensures read { IfOk result (λ text. text ≡ source_of bytes.items) }
@@ -127,7 +128,7 @@ impl SourceText {
         }
     }
 
-    /// The text.
+    /// The bytes of the text.
     pub fn text(&self) -> &str
         ensures bytes { result.now ≡ map byte_of self.now.placed }
         ensures len { length result.now ≡ length self.now.placed }
@@ -138,8 +139,8 @@ impl SourceText {
         self.text.as_str()
     }
 
-    /// The byte of the page where the byte `index` of the text came from. An LF that was CR LF came
-    /// from the CR. For the text's length it is the page's length.
+    /// The byte of the page from which byte `index` of the text came. An LF that was CR LF came from the CR. For the
+    /// length of the text the result is the length of the page.
     pub fn place_of(&self, index: u32) -> u32
         requires { index ≤ length self.now.placed }
         ensures { result ≡ place_in self.now.placed self.now.end index }
@@ -150,15 +151,15 @@ impl SourceText {
 
     /// Frees the memory.
     ///
-    /// Once a large block was freed whole, the C library's allocator takes every block up to that size from its heap,
-    /// where a long list can't grow in place. So a long text is first cut short in place, and then freed.
+    /// After a large block is freed whole, the C library's allocator takes each block up to that size from its heap,
+    /// and a long list can't grow in place there. So a long text is shortened in place first, and then freed.
     pub fn release(self) {
         let mut text = self.text;
         text.clear();
         text.shrink_to(1);
     }
 
-    /// A text without bytes, which starts at the byte `start` of the page.
+    /// An empty text that starts at byte `start` of the page.
     pub fn empty(alloc: Global, start: u32) -> SourceText
         requires { start ≤ OUTPUT_LIMIT }
         ensures { result ≡ source_from start [] [] }
@@ -170,7 +171,7 @@ impl SourceText {
         }
     }
 
-    /// Adds what comes next in the page after the text, each of its line ends as LF.
+    /// Appends the next bytes of the page, with one LF for each line end.
     pub fn append(&mut self, page: &str) -> Result<(), OutOfMemory>
         requires room { self.old.end + length page.now ≤ OUTPUT_LIMIT }
         requires no_zero { all_pass is_nonzero page.now ≡ true }
@@ -179,7 +180,7 @@ impl SourceText {
         self.push_lines(page)
     }
 
-    /// The byte of the page that comes next after the text.
+    /// The byte of the page after the text.
     pub fn end(&self) -> u32
         ensures { result ≡ self.now.end }
     {
@@ -187,7 +188,7 @@ impl SourceText {
         self.start + self.text.len() as u32 + self.pairs.len() as u32
     }
 
-    /// Drops the first `n` bytes of the text. The others keep their places in the page. No memory is asked for.
+    /// Drops the first `n` bytes of the text. The others keep their places in the page. It allocates nothing.
     pub fn drop_front(&mut self, n: u32)
         requires inside { n ≤ length self.old.placed }
         requires boundary { IsCharBoundary (map byte_of self.old.placed) n }
@@ -203,7 +204,7 @@ impl SourceText {
         }
     }
 
-    // The text of a page that is UTF-8.
+    /// The text of a page that is UTF-8 and has no zero byte.
     fn of_page(alloc: Global, page: &str) -> Result<SourceText, OutOfMemory>
         requires short { length page.now ≤ OUTPUT_LIMIT }
         requires sound { text_fault page.now ≡ None }
@@ -219,7 +220,7 @@ impl SourceText {
         Ok(text)
     }
 
-    // Adds what is left of a page, each of its line ends as LF.
+    /// Appends the rest of a page, with one LF for each line end.
     fn push_lines(&mut self, page: &str) -> Result<(), OutOfMemory>
         requires room { self.old.end + length page.now ≤ OUTPUT_LIMIT }
         requires no_zero { all_pass is_nonzero page.now ≡ true }
@@ -242,7 +243,7 @@ impl SourceText {
         self.push_bytes(rest)
     }
 
-    // Adds bytes that stand in the page as they are, or an LF for a CR.
+    /// Appends bytes that the text takes unchanged from the page, or an LF for a CR.
     fn push_bytes(&mut self, bytes: &str) -> Result<(), OutOfMemory>
         requires room { self.old.end + length bytes.now ≤ OUTPUT_LIMIT }
         requires plain { all_pass is_text_byte bytes.now ≡ true }
@@ -252,7 +253,7 @@ impl SourceText {
         Ok(())
     }
 
-    // Adds the LF of a CR LF.
+    /// Appends an LF for a CR LF.
     fn push_pair(&mut self) -> Result<(), OutOfMemory>
         requires { self.old.end + 2 ≤ OUTPUT_LIMIT }
         ensures { OnOk result (self.new ≡ with_pair self.old) }
@@ -264,7 +265,7 @@ impl SourceText {
     }
 }
 
-// Drops the pairs in the first `n` bytes of a text; the others count from there.
+/// Drops the pairs in the first `n` bytes of a text, and counts the others from byte `n`.
 fn drop_pairs(pairs: &mut Vec<u32>, n: u32)
     ensures { pairs.new.items ≡ pairs_after n pairs.old.items }
 {
@@ -279,15 +280,15 @@ fn drop_pairs(pairs: &mut Vec<u32>, n: u32)
     pairs.truncate(kept);
 }
 
-// The byte of the page where the text starts.
+/// The byte of the page at which the text starts: after the byte order mark, if there is one.
 fn start_of(has_mark: bool) -> u32
     ensures { result ≡ start_of has_mark }
 {
     if has_mark { 3 } else { 0 }
 }
 
-// Whether a page without zero bytes is its own text: no line end in it has to be changed, and it can't begin with a
-// byte order mark.
+/// Whether a page without zero bytes is its own text. True only if it has no CR and doesn't start with a byte order
+/// mark.
 fn is_own_text(page: &[u8]) -> bool
     ensures unmarked { result ≡ true → without_mark (numbered 0 page.now) ≡ numbered 0 page.now }
     ensures plain { result ≡ true → all_pass is_nonzero page.now ≡ true → all_pass is_text_byte page.now ≡ true }
@@ -301,7 +302,7 @@ fn is_own_text(page: &[u8]) -> bool
     }
 }
 
-// Whether the page begins with the byte order mark U+FEFF, and what is left of the page.
+/// Whether the page starts with the byte order mark U+FEFF, and the page without it.
 fn without_mark(page: &str) -> (bool, &str)
     ensures whole { page.now ≡ mark_of result.0 ++ result.1.now }
     ensures places { without_mark (numbered 0 page.now) ≡ numbered (start_of result.0) result.1.now }
@@ -312,7 +313,7 @@ fn without_mark(page: &str) -> (bool, &str)
     }
 }
 
-// The bytes of a page as text, where they have one.
+/// The bytes of a page as a `str`, or the first fault. `limit` is the most bytes of a page.
 fn checked(bytes: &[u8], limit: u32) -> Result<&str, TextFault>
     requires { limit ≤ OUTPUT_LIMIT }
     ensures text { IfOk result (λ page. page.now ≡ bytes.now) }

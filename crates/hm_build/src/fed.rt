@@ -1,4 +1,4 @@
-//! The tree of a page that comes in pieces.
+//! The tree of a page that is read in pieces.
 ghost use Rattle.std.specs.Prelude.{◌≡◌, ◌≤◌, ◌+◌, ◌++◌, ℕ, List, [], None, Err, true, false, length, drop, map, IfOk, IfErr, OnOk, OnErr, IsCharBoundary};
 ghost use Rattle.std.specs.Option.{option_or};
 ghost use Rattle.hm_base.specs.Source.{byte_of};
@@ -23,7 +23,7 @@ use hm_tree::{Tag, Tree};
 use std::alloc::Global;
 use std::marker::Model;
 
-/// Takes all that is ready of a text: how many bytes that is.
+/// Takes all ready tokens of a text, and returns how many bytes they have.
 fn take_ready(
     alloc: Global,
     text: &SourceText,
@@ -50,7 +50,7 @@ fn take_ready(
     }
 }
 
-/// Lets all of the text go.
+/// Drops all of the text.
 fn drop_all(text: &mut TextPieces)
     ensures fed { (gone : List PlacedByte) (fed : List ℕ) → HasFed text.old gone fed → HasFed text.new (gone ++ text.old.source.placed) fed }
     ensures fault { text.new.fault ≡ text.old.fault }
@@ -63,7 +63,7 @@ fn drop_all(text: &mut TextPieces)
     text.drop_front(len);
 }
 
-/// Takes the end of a page, of which `refused` is the first refusal of a token, and gives the first refusal of the page.
+/// Ends a page, and returns its first refusal. `refused` is the first refusal of a token.
 #[inline(always)]
 fn take_end(
     text: &mut TextPieces,
@@ -91,7 +91,7 @@ fn take_end(
     }
 }
 
-/// The tree of what was built so far and of the text that is left, which is freed.
+/// The tree of what was built so far and of the rest of the text, which is freed.
 #[inline(always)]
 fn build_rest(
     alloc: Global,
@@ -112,11 +112,11 @@ fn build_rest(
     }
 }
 
-/// A tree that is built of a page as it comes, piece by piece.
+/// Builds the tree of a page while it is read, piece by piece.
 ///
-/// Contracts see the names of references, what is known of the page, what is built, and the first refusal of a token. What
-/// is ready of the page is taken before `feed` and `scan` return, and its text is let go. `gather` looks for no token, so that
-/// a long one which comes in many pieces can be looked at less often.
+/// Contracts see the named character references, what is known of the page, what is built, and the first refusal of a
+/// token. `feed` and `scan` take all ready tokens before they return, and drop their text. `gather` looks for no token,
+/// so that a long one that is read in many pieces can be looked at less often.
 #[derive(Drop)]
 pub struct Builder<'t> {
     text: TextPieces,
@@ -125,7 +125,7 @@ pub struct Builder<'t> {
     tag: Tag,
     /// The first refusal of a token.
     refused: Option<(Rule, u32)>,
-    /// Memory was refused.
+    /// An allocation failed earlier.
     is_broken: bool,
     alloc: Global,
 }
@@ -141,7 +141,7 @@ impl<'t> Model for Builder<'t> {
 }
 
 impl<'t> Builder<'t> {
-    /// Nothing has come yet.
+    /// Nothing is read yet. At most `limit` bytes of the page may follow.
     pub fn new(alloc: Global, table: &'t Table, limit: u32) -> Result<Builder<'t>, OutOfMemory>
         requires { limit ≤ OUTPUT_LIMIT }
         ensures read { IfOk result (λ builder. HasRead builder []) }
@@ -165,9 +165,9 @@ impl<'t> Builder<'t> {
         })
     }
 
-    /// Takes the next bytes of the page. What is ready of them is taken by `scan`.
+    /// Reads the next bytes of the page. Their ready tokens are taken by `scan`.
     ///
-    /// Where memory is refused, each later call is refused too.
+    /// After a failed allocation each later call fails too.
     pub fn gather(&mut self, piece: &[u8]) -> Result<(), OutOfMemory>
         ensures come { OnOk result ((fed : List ℕ) → HasCome self.old fed → HasCome self.new (fed ++ piece.now)) }
         ensures building { self.new.building ≡ self.old.building }
@@ -191,9 +191,9 @@ impl<'t> Builder<'t> {
         Ok(())
     }
 
-    /// Takes all that is ready of the bytes that came, and lets its text go.
+    /// Takes all ready tokens of the bytes so far, and drops their text.
     ///
-    /// Where memory is refused, each later call is refused too.
+    /// After a failed allocation each later call fails too.
     pub fn scan(&mut self) -> Result<(), OutOfMemory>
         ensures read { OnOk result ((fed : List ℕ) → HasCome self.old fed → HasRead self.new fed) }
         ensures names { self.new.names ≡ self.old.names }
@@ -230,9 +230,9 @@ impl<'t> Builder<'t> {
         }
     }
 
-    /// Takes the next bytes of the page, and all that is ready of those that came.
+    /// Reads the next bytes of the page, and takes all ready tokens.
     ///
-    /// Where memory is refused, each later call is refused too.
+    /// After a failed allocation each later call fails too.
     pub fn feed(&mut self, piece: &[u8]) -> Result<(), OutOfMemory>
         ensures read { OnOk result ((fed : List ℕ) → HasCome self.old fed → HasRead self.new (fed ++ piece.now)) }
         ensures names { self.new.names ≡ self.old.names }
@@ -246,7 +246,7 @@ impl<'t> Builder<'t> {
         }
     }
 
-    /// The tree of the page, of which all bytes have come, or its first refusal, with its rule and its byte of the page.
+    /// Ends the page, and returns its tree or its first refusal, with its rule and its byte of the page.
     ///
     /// A page that is too long, isn't UTF-8 or has a zero byte is refused for that, whatever its tokens are.
     pub fn end(self) -> Result<Tree, Refused>
@@ -272,7 +272,7 @@ impl<'t> Builder<'t> {
         }
     }
 
-    /// How many elements are open after all tokens that are ready, of those that came; 0 where the page is refused already.
+    /// How many elements are open after all ready tokens of the bytes so far. 0 if the page is already refused.
     pub fn depth(&self) -> u32
         ensures { (fed : List ℕ) → HasRead self.now fed → result ≡ feeding.depth self.now.names self.now.pieces.limit fed }
     {
@@ -282,7 +282,7 @@ impl<'t> Builder<'t> {
         self.tree.depth()
     }
 
-    /// How many bytes of the text are kept: those that aren't ready; 0 where the page is refused already.
+    /// How many bytes of the text are kept, since they aren't ready. 0 if the page is already refused.
     pub fn kept(&self) -> u32
         ensures { (fed : List ℕ) → HasRead self.now fed → result ≡ feeding.kept self.now.names self.now.pieces.limit fed }
     {

@@ -1,4 +1,4 @@
-//! The tree of a page: `parse` reads it token by token and builds each into the tree.
+//! The tree of a page: `parse` reads a text token by token, and builds the tree from the tokens.
 #![tactic(auto)]
 
 mod fed;

@@ -20,17 +20,17 @@ use hm_refs::laws::every_table;
 use hm_tree::{Lexeme, Tag, Tree};
 use std::alloc::Global;
 
-/// What a turn of the reader took.
+/// What one turn of the reader took.
 enum Taken {
     /// Nothing: no token is left.
     Over,
     /// A token other than an end tag. It doesn't close body.
     Other,
-    /// An end tag that begins at byte `from` of the text.
+    /// An end tag that starts at byte `from` of the text.
     EndTag { from: u32 },
 }
 
-/// What a turn took with a token that begins at byte `from` of the text.
+/// What a turn took with a token that starts at byte `from` of the text.
 fn taken_of(lexeme: Lexeme, from: u32) -> Taken
     ensures { result ≡ taken_by lexeme from }
 {
@@ -40,7 +40,7 @@ fn taken_of(lexeme: Lexeme, from: u32) -> Taken
     }
 }
 
-/// Takes the next token, if there is one. Its tag is read into `tag`.
+/// Takes the next token, if there is one. A tag is read into `tag`.
 fn turn<'a>(
     alloc: Global,
     text: &SourceText,
@@ -64,8 +64,8 @@ fn turn<'a>(
     }
 }
 
-/// Takes the tokens, up to the end of the text, and returns the byte of the page where the token stands that closes body. One
-/// tag after another is read into `tag`.
+/// Takes all tokens up to the end of the text, and returns the byte of the page at which the first token that closes
+/// `body` starts. Each tag is read into `tag`.
 fn turns<'a>(
     alloc: Global,
     text: &SourceText,
@@ -94,7 +94,7 @@ fn turns<'a>(
     }
 }
 
-/// What was built, with what is missing at the end of the text, and where body was closed.
+/// Ends the page: the tree with all that was missing, and the byte of the page at which `body` was closed.
 fn finish<'a>(
     alloc: Global,
     text: &SourceText,
@@ -115,9 +115,10 @@ fn finish<'a>(
     }
 }
 
-/// Takes all tokens that are left of the text, and returns the byte of the page where the token stands that closes body.
+/// Takes all tokens that follow in the text, and returns the byte of the page at which the first token that closes
+/// `body` starts.
 ///
-/// What is ready is taken first, as where a page comes in pieces: nearly all of it.
+/// The ready tokens are taken first, as for a page that is read in pieces. These are nearly all.
 #[inline(always)]
 fn read_rest<'a>(
     alloc: Global,
@@ -147,8 +148,8 @@ fn read_rest<'a>(
     }
 }
 
-/// The tree of what was built so far and of the text that is left, and where that text closes body. One tag after another is read
-/// into `tag`.
+/// The tree of what was built so far and of the rest of the text, and the byte of the page at which that text closes
+/// `body`. Each tag is read into `tag`.
 #[inline(always)]
 fn parse_on(
     alloc: Global,
@@ -171,7 +172,7 @@ fn parse_on(
     }
 }
 
-/// The same, with a tag that is dropped at the end.
+/// As `parse_on`, but drops the tag at the end.
 pub(crate) fn parse_rest(
     alloc: Global,
     text: &SourceText,
@@ -188,9 +189,9 @@ pub(crate) fn parse_rest(
     parse_on(alloc, text, table, builder, &mut tag)
 }
 
-/// The tree of a page as `parse` gives it, and where the page closes its body: the byte of the page where the first token
-/// stands after which only whitespace, comments and `</html>` may come (#parsing-main-afterbody). None closes it in a page
-/// that leaves `</body>` and `</html>` out.
+/// The tree of a page, as `parse`, and where the page closes its body: the byte of the page at which the first token
+/// starts after which only whitespace, comments and `</html>` may follow (#parsing-main-afterbody). None for a page
+/// without `</body>` and `</html>`.
 pub fn parse_closed(
     alloc: Global,
     text: &SourceText,
@@ -209,11 +210,10 @@ pub fn parse_closed(
     }
 }
 
-/// The tree of a page (#overview-of-the-parsing-model, #tree-construction), or its first refusal, with its rule and its byte of
-/// the page.
+/// The tree of a page (#overview-of-the-parsing-model, #tree-construction), or its first refusal, with its rule and its
+/// byte of the page.
 ///
-/// The time is linear in the page, and the tree is settled: it keeps the rules of
-/// nesting and text of a page without repairs.
+/// It takes time linear in the page. The tree is settled: some page gives it without any repair.
 pub fn parse(alloc: Global, text: &SourceText, table: &Table) -> Result<Tree, Refused>
     ensures built { IfOk result (λ tree. tree_of_source table.now.entries text.now ≡ built tree) }
     ensures settled { IfOk result (λ tree. Settled tree) }

@@ -1,11 +1,11 @@
-//! Places in the page: of a refusal, and of the end of body.
+//! Places in the page: of a refusal, and of the end of `body`.
 ghost use Rattle.std.specs.Prelude.{◌≡◌, ◌≤◌, ◌+◌, length};
 ghost use Rattle.hm_build.specs.Parsing.{answer_of, closed_here, first_of, place_of, span_of};
 
 use hm_base::{Refused, SourceText};
 use hm_insertion::{BuildFault, TreeBuilder};
 
-/// The refusal that a fault gives, for a token that begins at byte `at` of the text.
+/// The refusal of a page by a fault of the token that starts at byte `at` of the text.
 pub(crate) fn refusal(text: &SourceText, fault: BuildFault, at: u32) -> Refused
     requires { at + span_of fault ≤ length text.now.placed }
     ensures { result ≡ answer_of fault (place_of text.now (at + span_of fault)) }
@@ -20,8 +20,8 @@ pub(crate) fn refusal(text: &SourceText, fault: BuildFault, at: u32) -> Refused
     }
 }
 
-/// The byte of the page where the tag stands that closes body, once the token at byte `from` of the text was taken: the
-/// place that was found before, or that of this token.
+/// The byte of the page at which `body` was closed, after the token at byte `from` of the text: `closed`, if it was
+/// closed before, or the byte of this token.
 #[inline(always)]
 pub(crate) fn closed_by(
     text: &SourceText,
@@ -39,7 +39,7 @@ pub(crate) fn closed_by(
     }
 }
 
-/// The first of two places, where there is one.
+/// The first of two places, if there is one.
 pub(crate) fn first_closed(closed: Option<u32>, later: Option<u32>) -> Option<u32>
     ensures { result ≡ first_of closed later }
 {

@@ -1,4 +1,4 @@
-//! What is ready of a text that may go on.
+//! The ready tokens of a text of which more may follow.
 ghost use Rattle.std.specs.Prelude.{◌≡◌, Ok, true, false, IfErr, OnOk};
 ghost use Rattle.hm_refs.specs.Tables.{IsTable};
 ghost use Rattle.hm_build.specs.Feeding.{Comes, IsPartway, IsWaiting, StopsAs, left};
@@ -12,8 +12,8 @@ use hm_lexer::Lexer;
 use hm_tree::Tag;
 use std::alloc::Global;
 
-/// Takes the next token or piece of text, where one is ready. A tag is read into `tag`. Where it is the first that closes body, its
-/// byte of the page is put into `closed`.
+/// Takes the next token or piece of text, if one is ready. A tag is read into `tag`. If it is the first that closes
+/// `body`, its byte of the page is put into `closed`.
 fn part_turn<'a>(
     alloc: Global,
     text: &SourceText,
@@ -44,7 +44,7 @@ fn part_turn<'a>(
     }
 }
 
-/// Takes all that is ready.
+/// Takes all ready tokens.
 pub(crate) fn part_turns<'a>(
     alloc: Global,
     text: &SourceText,

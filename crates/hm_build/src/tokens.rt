@@ -1,4 +1,4 @@
-//! A token taken into a tree.
+//! Takes a token into a tree.
 ghost use Rattle.std.specs.Prelude.{◌≡◌, ◌^◌, ◌<◌, length};
 ghost use Rattle.hm_tree.specs.Lexemes.{token_of};
 ghost use Rattle.hm_tree.specs.Tokens.{IsInText, seen};
@@ -36,8 +36,8 @@ fn mode_of_name(name: &str) -> Mode
     }
 }
 
-/// How the text that comes next is read (HTML Standard, #parsing-elements-that-contain-only-text). Only the name of an element
-/// that holds one text is looked up.
+/// How the next text is read (HTML Standard, #parsing-elements-that-contain-only-text). It looks up only the name of an
+/// element that holds one text.
 #[inline(always)]
 pub(crate) fn mode(builder: &TreeBuilder) -> Mode
     ensures { mode_of result ≡ trees.mode_of builder.now.state.path }
@@ -51,7 +51,7 @@ pub(crate) fn mode(builder: &TreeBuilder) -> Mode
     }
 }
 
-/// Takes a token of this text, whose name and attributes, where it is a tag, stand in `tag`.
+/// Takes a token of this text. The name and the attributes of a tag are in `tag`.
 #[inline(always)]
 pub(crate) fn take(
     alloc: Global,

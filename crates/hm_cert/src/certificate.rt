@@ -1,4 +1,4 @@
-//! A certificate, read.
+//! Reads a certificate.
 ghost use Rattle.std.specs.Prelude.{◌≡◌, IfOk};
 ghost use Rattle.hm_cert.specs.Certificate.{AreRows};
 ghost use Rattle.hm_cert.specs.Reading.{ReadsAs};
@@ -8,7 +8,7 @@ use crate::lines::{CertificateFault, read_head};
 use hm_base::{Format, SpellRules};
 use std::alloc::Global;
 
-/// A certificate: its format, the rules that it is about, and the prices of the layers that are written.
+/// A certificate: its format, the rules that it was written under, and the prices of the layers that it has.
 #[derive(Drop)]
 pub struct Certificate<'a> {
     pub format: Format,
@@ -17,7 +17,7 @@ pub struct Certificate<'a> {
 }
 
 impl<'a> Certificate<'a> {
-    /// Reads the text of a certificate. Each line is checked; the prices stay in the text until they are needed.
+    /// Reads the text of a certificate. Each line is checked. The prices are read from it again when they are needed.
     pub fn read(alloc: Global, bytes: &'a [u8]) -> Result<Certificate<'a>, CertificateFault>
         ensures read { ReadsAs bytes.now result }
         ensures rows { IfOk result (λ certificate. AreRows certificate.prices) }

@@ -7,12 +7,12 @@ ghost use Rattle.hm_cert.specs.Hundreds.{HasHundreds, IsKept, IsPut};
 
 use hm_base::OutOfMemory;
 
-/// The digits of the hundreds of some number below 10^9.
+/// The digits of the hundreds of a number below 10^9.
 #[derive(Clone, Copy)]
 struct KeptDigits {
-    /// The least number of these hundreds.
+    /// The least number with these hundreds.
     base: u64,
-    /// A space and that number from its end, and more spaces.
+    /// A space and that number, last byte first, and then spaces.
     text: [u8; 16],
     /// How many bytes the first space and the number have.
     len: usize,
@@ -20,7 +20,7 @@ struct KeptDigits {
 }
 
 impl KeptDigits {
-    /// Of some number.
+    /// The digits of some number, before any is written.
     fn new() -> KeptDigits {
         KeptDigits {
             base: 100,
@@ -29,7 +29,7 @@ impl KeptDigits {
         }
     }
 
-    /// Those of a number.
+    /// The digits of this number's hundreds.
     fn of(number: u64) -> KeptDigits
         requires some { 100 ≤ number }
         requires low { number < 10 ^ 9 }
@@ -60,7 +60,8 @@ impl KeptDigits {
         price.wrapping_sub(self.base) < 100
     }
 
-    /// Puts a space and a price of these hundreds, from its end, at the start of a line, and returns how many bytes they have.
+    /// Writes a space and a price with these hundreds, last byte first, at the start of a line. Returns how many bytes
+    /// they have.
     #[inline(always)]
     fn put(&self, line: &mut [u8], price: u64) -> usize
         requires room { 16 ≤ length line.old }
@@ -76,8 +77,8 @@ impl KeptDigits {
     }
 }
 
-/// The digits of two hundreds that recent prices had. Prices that are written one after another mostly differ only in
-/// their last two digits. Those of a row rarely have more than two hundreds.
+/// The digits of the last two hundreds that were written. Neighbouring prices mostly differ only in their last two
+/// digits, and those of a row rarely have more than two hundreds.
 #[derive(Clone, Copy)]
 pub(crate) struct Hundreds {
     latest: KeptDigits,
@@ -85,7 +86,7 @@ pub(crate) struct Hundreds {
 }
 
 impl Hundreds {
-    /// Of some number.
+    /// The digits of some numbers, before any is written.
     pub(crate) fn new() -> Hundreds {
         let digits = KeptDigits::new();
         Hundreds {
@@ -94,8 +95,8 @@ impl Hundreds {
         }
     }
 
-    /// Puts a space and a price, from its end, at the start of a line, where the price is at least 100 and below 10^9.
-    /// Returns how many bytes they have. The hundreds of the price are kept.
+    /// Writes a space and a price, last byte first, at the start of a line. Returns how many bytes they have, or None
+    /// if the price is below 100 or at least 10^9. Keeps the hundreds of the price.
     #[inline(always)]
     pub(crate) fn put(&mut self, line: &mut [u8], price: u64) -> Option<usize>
         requires { 16 ≤ length line.old }
@@ -110,7 +111,7 @@ impl Hundreds {
         self.put_other(line, price)
     }
 
-    /// As `put`, for a price of other hundreds than those that are kept.
+    /// As `put`, for a price whose hundreds aren't kept.
     #[inline(never)]
     fn put_other(&mut self, line: &mut [u8], price: u64) -> Option<usize>
         requires { 16 ≤ length line.old }
@@ -125,7 +126,7 @@ impl Hundreds {
     }
 }
 
-/// Appends the digits of a number, the last first.
+/// Appends the digits of a number, last digit first.
 pub(crate) fn put_number(out: &mut Vec<u8>, number: u64) -> Result<(), OutOfMemory>
     ensures { OnOk result (out.new.items ≡ out.old.items ++ reverse (decimal number)) }
 {
@@ -141,7 +142,7 @@ pub(crate) fn put_number(out: &mut Vec<u8>, number: u64) -> Result<(), OutOfMemo
     Ok(())
 }
 
-/// The two digits of a number below 100, the last first.
+/// The two digits of a number below 100, last digit first.
 #[inline(always)]
 fn two_digits(number: u8) -> [u8; 2]
     requires { number < 100 }
@@ -152,7 +153,7 @@ fn two_digits(number: u8) -> [u8; 2]
     (0x3030 + number as u16 + 246 * tens).to_le_bytes()
 }
 
-/// Appends the two digits of a number below 100, the last first.
+/// Appends the two digits of a number below 100, last digit first.
 #[inline(always)]
 fn put_pair(out: &mut Vec<u8>, pair: u8) -> Result<(), OutOfMemory>
     requires { pair < 100 }

@@ -1,4 +1,4 @@
-//! The rows of prices of a certificate that was read, kept as its lines.
+//! The rows of prices of a certificate, kept as its lines.
 ghost use Rattle.std.specs.Prelude.{◌≡◌, ◌+◌, ◌-◌, ◌<◌, [], length, map, slice_index_or, slice_range, OnOk};
 ghost use Rattle.hm_cert.specs.Layout.{told};
 ghost use Rattle.hm_cert.specs.Places.{AreCounted, IsLineStart, IsRowPlace};
@@ -12,8 +12,8 @@ use memchr::memrchr;
 use std::alloc::Global;
 use std::marker::Model;
 
-/// The prices of each layer that a certificate writes, in bytes, read from its lines when they are needed. Contracts
-/// see the list of rows, each the list of its prices, in which a closed one is None.
+/// The prices of each layer that a certificate has, in bytes. They are read from its lines when they are needed.
+/// Contracts see the list of rows, each the list of its prices. An infinite price is None.
 #[derive(Drop)]
 pub struct WrittenRows<'a> {
     lines: &'a [u8],
@@ -32,19 +32,19 @@ impl<'a> Model for WrittenRows<'a> {
     ghost invariant = { λ r. AreLines r.lines.now r.count };
 }
 
-/// A place between rows: before one, or after the last one.
+/// A place between rows: before one of them, or after the last one.
 #[derive(Clone, Copy)]
 pub struct RowPlace<'a> {
     /// How many rows are before it.
     pub row: usize,
-    // how many bytes their lines have
+    /// How many bytes the lines of these rows have.
     at: usize,
-    // the first digits of a later price
+    /// The first digits of a price of a later row.
     known: LeadingDigits<'a>,
 }
 
 impl<'a> WrittenRows<'a> {
-    /// Reads the rows of all lines that are left.
+    /// Reads the rows of all lines that follow.
     pub fn read(alloc: Global, lines: Lines<'a>) -> Result<WrittenRows<'a>, CertificateFault>
         ensures { RowsAre (rows_in lines.entry.number lines.entry.rest.now) result }
     {
@@ -72,7 +72,8 @@ impl<'a> WrittenRows<'a> {
         }
     }
 
-    /// Reads the row before a place, of any form, in place of what the list held, and moves the place before it.
+    /// Reads the row before a place, whatever its prices, into a list, whose old items are dropped. The place moves
+    /// before that row.
     fn any_row_before(
         &self,
         place: &mut RowPlace<'a>,
@@ -91,8 +92,8 @@ impl<'a> WrittenRows<'a> {
         Ok(())
     }
 
-    /// Reads the row before a place into a list, in place of what is there, a closed price as `INFINITE`. The place moves
-    /// before that row. Where memory is refused, the place stays where it was.
+    /// Reads the row before a place into a list, whose old items are dropped. An infinite price is `INFINITE`. The
+    /// place moves before that row. If an allocation fails, it doesn't move.
     pub fn row_before(
         &self,
         place: &mut RowPlace<'a>,
@@ -115,7 +116,7 @@ impl<'a> WrittenRows<'a> {
     }
 }
 
-/// The line that ends at a place, and where it begins.
+/// The line that ends at byte `end`, and the byte at which it starts.
 fn line_before(text: &[u8], end: usize) -> (usize, &[u8])
     requires { end < length text.now }
     ensures start { IsLineStart text.now end result.0 }
@@ -128,7 +129,7 @@ fn line_before(text: &[u8], end: usize) -> (usize, &[u8])
     (at, &text[at..end])
 }
 
-/// How many rows the lines have that are left.
+/// How many rows the lines have that follow.
 fn count_rows(alloc: Global, mut lines: Lines<'_>) -> Result<usize, CertificateFault>
     ensures { AreCounted (rows_in lines.entry.number lines.entry.rest.now) result }
 {

@@ -1,4 +1,4 @@
-//! Numbers of six to ten digits that differ only in their last two digits from one that was read.
+//! Numbers of six to ten digits that differ only in their last two digits from an earlier one.
 ghost use Rattle.std.specs.Prelude.{◌≡◌, ◌+◌, ◌≤◌, length, take, IfSome, IsTrue};
 ghost use Rattle.std.specs.Fmt.{decimal};
 ghost use Rattle.std.specs.Int.{w32, to_le_bytes};
@@ -8,8 +8,8 @@ ghost use Rattle.hm_cert.specs.Leading.{BeginsWith, HasFour, IsLeading, WritesPa
 
 use crate::lines::read_price;
 
-/// The digits of a number without the last two, and the number that they write. In a certificate many prices have the
-/// same ones as the price next to them.
+/// The digits of a number without its last two, and their value. Many prices of a certificate have the same ones as
+/// their neighbours.
 #[derive(Clone, Copy)]
 pub(crate) struct LeadingDigits<'a> {
     digits: &'a [u8],
@@ -17,7 +17,7 @@ pub(crate) struct LeadingDigits<'a> {
     ghost known: { IsLeading digits.now number },
 }
 
-/// Four bytes of a text, from a place on, as one number.
+/// Four bytes of a text, from `at` on, as one number.
 fn four(text: &[u8], at: usize) -> u32
     requires { at + 4 ≤ length text.now }
     ensures { HasFour text.now at (to_le_bytes w32 result) }
@@ -25,7 +25,7 @@ fn four(text: &[u8], at: usize) -> u32
     u32::from_le_bytes([text[at], text[at + 1], text[at + 2], text[at + 3]])
 }
 
-/// Whether a text begins with these digits, of which there are four to eight.
+/// Whether a text starts with these digits, of which there are four to eight.
 fn begins_with(text: &[u8], digits: &[u8]) -> bool
     requires some { 4 ≤ length digits.now }
     requires few { length digits.now ≤ 8 }
@@ -36,7 +36,7 @@ fn begins_with(text: &[u8], digits: &[u8]) -> bool
     four(text, 0) == four(digits, 0) && four(text, last) == four(digits, last)
 }
 
-/// The number that two bytes write, where they are digits.
+/// The number of two decimal digits. None if a byte isn't a digit.
 fn pair(tens: u8, ones: u8) -> Option<u64>
     ensures { IfSome result (WritesPair tens ones) }
 {
@@ -47,7 +47,7 @@ fn pair(tens: u8, ones: u8) -> Option<u64>
 }
 
 impl<'a> LeadingDigits<'a> {
-    /// The first digits of some number.
+    /// The first digits of some number, before any is read.
     pub(crate) fn any() -> LeadingDigits<'a> {
         LeadingDigits {
             digits: b"1000",
@@ -55,7 +55,7 @@ impl<'a> LeadingDigits<'a> {
         }
     }
 
-    /// The first digits of a price whose text is this word, where it has six to ten digits.
+    /// The first digits of a price written as `word`. None if it hasn't six to ten digits.
     pub(crate) fn of(word: &'a [u8], price: u64) -> Option<LeadingDigits<'a>>
         requires can { IsPrice (told price) }
         requires word { word.now ≡ price_text (told price) }
@@ -69,13 +69,13 @@ impl<'a> LeadingDigits<'a> {
         })
     }
 
-    /// The first digits of the price whose text a word is, where it has six to ten digits.
+    /// The first digits of the price that is written as `word`. None if it isn't a price of six to ten digits.
     pub(crate) fn read(word: &'a [u8]) -> Option<LeadingDigits<'a>> {
         let price = read_price(word)?;
         LeadingDigits::of(word, price)
     }
 
-    /// How many digits the numbers with these first ones have.
+    /// How many digits a number with these first digits has.
     pub(crate) fn width(&self) -> usize
         ensures width { result ≡ length self.now.digits.now + 2 }
         ensures few { result ≤ 10 }
@@ -83,7 +83,7 @@ impl<'a> LeadingDigits<'a> {
         self.digits.len() + 2
     }
 
-    /// The number that a text begins with, where it has these first digits and two more digits.
+    /// The number at the start of a text. None if it doesn't start with these first digits and two more.
     pub(crate) fn number_of(&self, text: &[u8]) -> Option<u64>
         ensures { IfSome result (BeginsWith text.now (length self.now.digits.now + 2)) }
     {

@@ -1,4 +1,4 @@
-//! The text of a certificate: how prices of layers are written and read. It knows no graph.
+//! The text of a certificate: how prices of layers are written and read. It knows nothing of graphs.
 #![tactic(auto)]
 
 mod certificate;

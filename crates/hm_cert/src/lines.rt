@@ -19,9 +19,9 @@ use memchr::memchr;
 pub enum CertificateFault {
     /// There are more bytes than the limit of certificates.
     TooLong,
-    /// The first line that isn't as the format says, counted from 1.
+    /// The first line that breaks the format, counted from 1.
     BadLine { line: u32 },
-    /// Memory was refused.
+    /// An allocation failed.
     OutOfMemory,
 }
 
@@ -36,25 +36,25 @@ impl From<OutOfMemory> for CertificateFault {
     }
 }
 
-/// The lines of a certificate that are left to read.
+/// The lines of a certificate that are still to be read.
 #[derive(Drop)]
 pub struct Lines<'a> {
     rest: &'a [u8],
-    // the number of the next line, counted from 1
+    /// The number of the next line, counted from 1.
     number: u32,
     ghost counted: { number + length rest.now < 2 ^ 32 },
 }
 
-/// The first two lines of a certificate, read.
+/// The first two lines of a certificate.
 #[derive(Drop)]
 pub struct Head<'a> {
     pub format: Format,
     pub rules: SpellRules,
-    /// The lines of prices that follow.
+    /// The lines of prices after them.
     pub lines: Lines<'a>,
 }
 
-/// Reads the first two lines of at most `CERTIFICATE_LIMIT` bytes.
+/// Reads the first two lines of a certificate of at most `CERTIFICATE_LIMIT` bytes.
 pub fn read_head(bytes: &[u8]) -> Result<Head<'_>, CertificateFault>
     ensures ok { IfOk result (λ head. (length bytes.now ≤ CERTIFICATE_LIMIT) × (given bytes.now ≡ with_head head.format head.rules (rows_in head.lines.number head.lines.rest.now))) }
     ensures err { IfErr result (IsBadHead bytes.now) }
@@ -82,15 +82,15 @@ pub fn read_head(bytes: &[u8]) -> Result<Head<'_>, CertificateFault>
 }
 
 impl<'a> Lines<'a> {
-    /// The text of the lines that are left.
+    /// The text of these lines.
     pub(crate) fn text(&self) -> &'a [u8]
         ensures { result.now ≡ self.now.rest.now }
     {
         self.rest
     }
 
-    /// Reads the next row into a list, in place of what is there, a closed price as `INFINITE`. False at the end. After a
-    /// refusal the lines are as they were.
+    /// Reads the next row into a list, whose old items are dropped. An infinite price is `INFINITE`. False if no line
+    /// is left. After an error the lines are unchanged.
     pub fn next_row(&mut self, into: &mut Vec<u64>) -> Result<bool, CertificateFault>
         ensures row { IsNext (rows_in self.old.number self.old.rest.now) (map told into.new.items) (rows_in self.new.number self.new.rest.now) result }
         ensures prices { IfOk result (λ more. more ≡ true → (0 < length into.new.items) × ArePrices (map told into.new.items)) }
@@ -111,8 +111,9 @@ impl<'a> Lines<'a> {
         Ok(true)
     }
 
-    /// Skips the next row, where the first digits of a price are known. False at the end. A row of prices of few digits
-    /// isn't read, and of another one the list is left with what was read. After a refusal the lines are as they were.
+    /// Checks the next row and passes it. `known` has the first digits of an earlier price. False if no line is left.
+    /// If the row has a price of many digits, `spare` may hold its prices afterwards. After an error the lines are
+    /// unchanged.
     pub(crate) fn pass_row(
         &mut self,
         spare: &mut Vec<u64>,
@@ -134,7 +135,7 @@ impl<'a> Lines<'a> {
     }
 }
 
-/// The text before the first byte `mark` and the text after it, where there is one.
+/// The text before the first byte `mark` and the text after it, if there is one.
 fn cut(text: &[u8], mark: u8) -> Option<(&[u8], &[u8])>
     ensures pieces { MatchOption result (pieces mark text.now ≡ text.now ∷ []) (λ parts. pieces mark text.now ≡ parts.0.now ∷ pieces mark parts.1.now) }
     ensures shorter { IfSome result (λ parts. length parts.0.now + length parts.1.now + 1 ≡ length text.now) }
@@ -145,7 +146,7 @@ fn cut(text: &[u8], mark: u8) -> Option<(&[u8], &[u8])>
     }
 }
 
-/// The format whose text a line is.
+/// The format that a line names.
 fn read_format(line: &[u8]) -> Option<Format>
     ensures { result ≡ line_format line.now }
 {
@@ -160,7 +161,7 @@ fn read_format(line: &[u8]) -> Option<Format>
     }
 }
 
-/// The rules whose text a line is.
+/// The rules that a line names.
 fn read_rules(line: &[u8]) -> Option<SpellRules>
     ensures { result ≡ line_rules line.now }
 {
@@ -182,7 +183,7 @@ fn read_rules(line: &[u8]) -> Option<SpellRules>
     })
 }
 
-/// Whether a text begins with a word, and what is left of it then.
+/// Whether a text starts with a word, and the text without it.
 fn take_flag<'a>(text: &'a [u8], word: &[u8]) -> (bool, &'a [u8])
     ensures flag { result.0 ≡ is_some (strip word.now text.now) }
     ensures rest { result.1.now ≡ unwrap_or (strip word.now text.now) text.now }
@@ -193,7 +194,7 @@ fn take_flag<'a>(text: &'a [u8], word: &[u8]) -> (bool, &'a [u8])
     }
 }
 
-/// What follows a word, where the text begins with it.
+/// The text after a word, if it starts with it.
 fn after<'a>(text: &'a [u8], word: &[u8]) -> Option<&'a [u8]>
     ensures { option_map (λ rest. rest.now) result ≡ strip word.now text.now }
 {
@@ -204,15 +205,15 @@ fn after<'a>(text: &'a [u8], word: &[u8]) -> Option<&'a [u8]>
     }
 }
 
-/// The price whose text a line begins with.
+/// The price at the start of a line.
 #[derive(Drop)]
 struct FirstPrice<'a> {
     price: u64,
-    /// What follows the space after it, where there is one.
+    /// The text after the space that follows it, if there is one.
     more: Option<&'a [u8]>,
 }
 
-/// Reads a row into a list, in place of what is there. Whether each word of the line is a price.
+/// Reads a row into a list, whose old items are dropped. Returns whether each word of the line is a price.
 pub(crate) fn read_row(line: &[u8], into: &mut Vec<u64>) -> Result<bool, OutOfMemory>
     ensures { IfOk result (λ good. line_row line.now ≡ (if good then Some (map told into.new.items) else None)) }
 {
@@ -228,7 +229,7 @@ pub(crate) fn read_row(line: &[u8], into: &mut Vec<u64>) -> Result<bool, OutOfMe
     Ok(false)
 }
 
-/// The price whose text the first word of a line is.
+/// The price that the first word of a line is, if it is one.
 fn first_price(line: &[u8]) -> Option<FirstPrice<'_>>
     ensures { MatchOption result (IsNoFirst line.now) (IsFirst line.now) }
 {
@@ -247,7 +248,7 @@ fn first_price(line: &[u8]) -> Option<FirstPrice<'_>>
     }
 }
 
-/// The price whose text a word is.
+/// The price that a word is, if it is one.
 pub(crate) fn read_price(word: &[u8]) -> Option<u64>
     ensures { option_map told result ≡ word_price word.now }
 {
@@ -260,7 +261,7 @@ pub(crate) fn read_price(word: &[u8]) -> Option<u64>
     read_number(word)
 }
 
-/// Whether a word has as many bytes as a number below 2^63, and `0` at the start only if that is all.
+/// Whether a word is no longer than a number below 2^63, and starts with `0` only if that is the whole word.
 pub(crate) fn has_number_form(word: &[u8]) -> bool
     ensures { IsTrue result ↔ HasNumberForm word.now }
 {
@@ -270,7 +271,7 @@ pub(crate) fn has_number_form(word: &[u8]) -> bool
     }
 }
 
-/// The number below 2^63 that digits write, of which there are at most 19.
+/// The number below 2^63 of at most 19 decimal digits.
 fn read_number(word: &[u8]) -> Option<u64>
     requires { length word.now ≤ 19 }
     ensures { IsNumber word.now result }

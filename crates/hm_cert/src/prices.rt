@@ -1,4 +1,4 @@
-//! The prices of the layers that a certificate writes.
+//! The prices of the layers that a certificate has.
 ghost use Rattle.std.specs.Prelude.{◌≡◌, ℕ, ◌+◌, ◌^◌, option_map, ◌<◌, ◌≤◌, [], ◌∷◌, ◌++◌, length, map, slice_index, slice_index_or, slice_range, OnOk, OnErr};
 ghost use Rattle.hm_cert.specs.Layout.{told};
 ghost use Rattle.hm_cert.specs.Rows.{AreBelow, IsBelow};
@@ -7,10 +7,10 @@ use hm_base::OutOfMemory;
 use std::alloc::Global;
 use std::marker::Model;
 
-/// The number that stands for a closed price, one without a bound.
+/// The number for an infinite price, `-` in a certificate: no way to the end goes on from there.
 pub const INFINITE: u64 = u64::MAX;
 
-/// The price that a number stands for: none where it is closed.
+/// The price that a number means. None if it is infinite.
 pub fn price_of(number: u64) -> Option<u64>
     ensures { result ≡ told number }
 {
@@ -21,7 +21,7 @@ pub fn price_of(number: u64) -> Option<u64>
     }
 }
 
-/// The price with `len` added.
+/// The price plus `len` bytes. An infinite price stays infinite.
 pub fn more(price: u64, len: u64) -> u64
     requires below { IsBelow (2 ^ 63 + 2 ^ 62) (told price) }
     requires low { len < 2 ^ 62 }
@@ -30,7 +30,7 @@ pub fn more(price: u64, len: u64) -> u64
     len.saturating_add(price)
 }
 
-/// Adds `len` to each price.
+/// Adds `len` bytes to each price.
 pub fn add_each(row: &mut [u64], len: u64)
     requires below { AreBelow (2 ^ 63 + 2 ^ 62) (map told row.old) }
     requires low { len < 2 ^ 62 }
@@ -41,13 +41,13 @@ pub fn add_each(row: &mut [u64], len: u64)
     }
 }
 
-/// The prices of each layer that is written, in bytes. Contracts see the list of rows, each the list of its prices, in
-/// which a closed one is None.
+/// The prices of each layer of a certificate, in bytes. Contracts see the list of rows, each the list of its prices. An
+/// infinite price is None.
 #[derive(Drop)]
 pub struct Prices {
-    // the rows, one after the other
+    /// The rows, one after the other.
     numbers: Vec<u64>,
-    // where each row ends
+    /// The index in `numbers` after each row.
     ends: Vec<usize>,
 }
 
@@ -74,7 +74,7 @@ impl Prices {
         }
     }
 
-    /// Adds a row at the end: its prices, a closed one as `INFINITE`.
+    /// Adds a row after the others. An infinite price is `INFINITE`.
     pub fn push_row(&mut self, row: &[u64]) -> Result<(), OutOfMemory>
         ensures ok { OnOk result (self.new ≡ self.old ++ map told row.now ∷ []) }
         ensures unchanged { OnErr result (self.new ≡ self.old) }
@@ -90,7 +90,7 @@ impl Prices {
         }
     }
 
-    /// Takes out all rows.
+    /// Removes all rows.
     pub fn clear(&mut self)
         ensures { self.new ≡ [] }
     {
@@ -105,7 +105,7 @@ impl Prices {
         self.ends.len()
     }
 
-    /// The prices of row `k`, a closed one as `INFINITE`.
+    /// The prices of row `k`. An infinite price is `INFINITE`.
     pub fn row(&self, k: usize) -> &[u64]
         requires { k < length self.now }
         ensures { map told result.now ≡ slice_index_or self.now k [] }
@@ -115,7 +115,7 @@ impl Prices {
     }
 }
 
-/// Where row `k` begins and where it ends, by the ends of all rows.
+/// The index of the first number of row `k`, and the one after its last. `ends` has the latter for all rows.
 fn span_of(ends: &[usize], k: usize) -> (usize, usize)
     requires { k < length ends.now }
     ensures start { result.0 ≡ slice_index (0 ∷ ends.now) k }
@@ -125,7 +125,7 @@ fn span_of(ends: &[usize], k: usize) -> (usize, usize)
     (start, ends[k])
 }
 
-/// The numbers from one place up to another.
+/// The numbers from index `start` up to `end`.
 fn part_of(numbers: &[u64], start: usize, end: usize) -> &[u64]
     requires order { start ≤ end }
     requires inside { end ≤ length numbers.now }

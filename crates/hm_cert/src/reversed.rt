@@ -1,4 +1,4 @@
-//! The text of a certificate, from its end, for a writer that has the prices of the last layer first.
+//! The text of a certificate, last byte first, for a writer that knows the prices of the last layer first.
 ghost use Rattle.std.specs.Prelude.{◌≡◌, ◌∷◌, [], ◌++◌, ◌+◌, ◌*◌, ◌<◌, ◌≤◌, length, map, reverse, take, IfSome, OnOk};
 ghost use Rattle.hm_cert.specs.Certificate.{flag_text, head_lines, more_prices, price_text, row_line, row_text};
 ghost use Rattle.hm_cert.specs.Layout.{told};
@@ -10,21 +10,21 @@ use hm_base::{Format, OutOfMemory, SpellRules};
 use std::alloc::Global;
 use std::marker::Model;
 
-/// How many bytes of room are made at once.
+/// How many bytes of room are made at a time.
 const ROOM: usize = 4096;
 
-/// The most prices of a row that are put into the room.
+/// The most prices of a row that are written to the room.
 const PRICES: usize = 256;
 
-/// The text of a certificate from its end. Contracts see its bytes, the last byte of the text first.
+/// The text of a certificate, last byte first. Contracts see its bytes in that order.
 #[derive(Drop)]
 pub struct ReversedText {
     /// The bytes, and room after them.
     bytes: Vec<u8>,
-    /// How many bytes there are before the room.
+    /// How many bytes are before the room.
     len: usize,
     hundreds: Hundreds,
-    /// Lines that are not put into the room at once.
+    /// A line that isn't written to the room directly.
     spare: Vec<u8>,
 }
 
@@ -39,7 +39,7 @@ impl Model for ReversedText {
 }
 
 impl ReversedText {
-    /// No text.
+    /// No bytes.
     pub fn new(alloc: Global) -> ReversedText
         ensures { result ≡ [] }
     {
@@ -51,7 +51,7 @@ impl ReversedText {
         }
     }
 
-    /// Adds the first two lines.
+    /// Adds the first two lines of the certificate.
     pub fn put_head(&mut self, format: Format, rules: SpellRules) -> Result<(), OutOfMemory>
         ensures { OnOk result (self.new ≡ self.old ++ reverse (head_lines format rules)) }
     {
@@ -78,7 +78,7 @@ impl ReversedText {
         }
     }
 
-    /// As `put_line`, for a row of any form.
+    /// As `put_line`, for a row of any prices.
     #[inline(never)]
     fn put_other(&mut self, row: &[u64]) -> Result<(), OutOfMemory>
         ensures { OnOk result (self.new ≡ self.old ++ reverse (row_line (map told row.now))) }
@@ -88,7 +88,7 @@ impl ReversedText {
         add(&mut self.bytes, &mut self.len, &self.spare)
     }
 
-    /// The bytes, the last byte of the text first.
+    /// The bytes of the text, last byte first.
     pub fn into_bytes(self) -> Vec<u8>
         ensures { result.items ≡ self }
     {
@@ -113,7 +113,7 @@ fn make_room(bytes: &mut Vec<u8>, len: usize, count: usize) -> Result<(), OutOfM
     Ok(())
 }
 
-/// Adds these bytes after the first `len`, into the room or in its place.
+/// Adds these bytes after the first `len`. The room is used, or more is taken if it is too small.
 fn add(bytes: &mut Vec<u8>, len: &mut usize, more: &[u8]) -> Result<(), OutOfMemory>
     requires { len.old ≤ length bytes.old.items }
     ensures within { len.new ≤ length bytes.new.items }
@@ -131,7 +131,7 @@ fn add(bytes: &mut Vec<u8>, len: &mut usize, more: &[u8]) -> Result<(), OutOfMem
     Ok(())
 }
 
-/// Appends the first two lines, the last byte first. Where memory is refused, a part may have been appended.
+/// Appends the first two lines, last byte first. If an allocation fails, a part of them may have been appended.
 fn put_head_reversed(
     out: &mut Vec<u8>,
     format: Format,
@@ -149,15 +149,15 @@ fn put_head_reversed(
     put_bytes(out, format_text(format))
 }
 
-/// Appends the line of a row, the last byte first. Where memory is refused, a part may have been appended.
+/// Appends the line of a row, last byte first. If an allocation fails, a part of it may have been appended.
 fn put_line_reversed(out: &mut Vec<u8>, row: &[u64]) -> Result<(), OutOfMemory>
     ensures { OnOk result (out.new.items ≡ out.old.items ++ reverse (row_line (map told row.now))) }
 {
     put_row(out, row, b'\n')
 }
 
-/// Puts the line of a row, the last byte first, at the start of a line, where each price is at least 100 and below
-/// 10^9. Returns how many bytes it has.
+/// Writes the line of a row, last byte first, at the start of `line`. Returns how many bytes it has, or None if a price
+/// is below 100 or at least 10^9.
 #[inline(always)]
 fn put_prices(line: &mut [u8], hundreds: &mut Hundreds, row: &[u64]) -> Option<usize>
     requires some { 0 < length row.now }
@@ -173,7 +173,7 @@ fn put_prices(line: &mut [u8], hundreds: &mut Hundreds, row: &[u64]) -> Option<u
     Some(at)
 }
 
-/// Appends prices with a space between and a byte after them, the last byte first.
+/// Appends prices with spaces between them and a byte after them, last byte first.
 fn put_row(out: &mut Vec<u8>, row: &[u64], mark: u8) -> Result<(), OutOfMemory>
     ensures { OnOk result (out.new.items ≡ out.old.items ++ mark ∷ reverse (row_text (map told row.now))) }
 {
@@ -185,7 +185,7 @@ fn put_row(out: &mut Vec<u8>, row: &[u64], mark: u8) -> Result<(), OutOfMemory>
     Ok(())
 }
 
-/// Appends prices, each after a space, the last byte first.
+/// Appends prices, each after a space, last byte first.
 fn put_more(out: &mut Vec<u8>, row: &[u64]) -> Result<(), OutOfMemory>
     ensures { OnOk result (out.new.items ≡ out.old.items ++ reverse (more_prices (map told row.now))) }
 {
@@ -196,7 +196,7 @@ fn put_more(out: &mut Vec<u8>, row: &[u64]) -> Result<(), OutOfMemory>
     Ok(())
 }
 
-/// Appends a price, the last byte first.
+/// Appends a price, last byte first.
 fn put_price(out: &mut Vec<u8>, price: u64) -> Result<(), OutOfMemory>
     ensures { OnOk result (out.new.items ≡ out.old.items ++ reverse (price_text (told price))) }
 {
@@ -207,7 +207,7 @@ fn put_price(out: &mut Vec<u8>, price: u64) -> Result<(), OutOfMemory>
     put_number(out, price)
 }
 
-/// Appends a word after a space, where it is set, the last byte first.
+/// Appends a space and a word, last byte first, if `is_set`.
 fn put_flag(out: &mut Vec<u8>, is_set: bool, word: &[u8]) -> Result<(), OutOfMemory>
     ensures { OnOk result (out.new.items ≡ out.old.items ++ reverse (flag_text is_set word.now)) }
 {
@@ -218,7 +218,7 @@ fn put_flag(out: &mut Vec<u8>, is_set: bool, word: &[u8]) -> Result<(), OutOfMem
     Ok(())
 }
 
-/// Appends bytes, the last first.
+/// Appends bytes, last byte first.
 fn put_bytes(out: &mut Vec<u8>, bytes: &[u8]) -> Result<(), OutOfMemory>
     ensures { OnOk result (out.new.items ≡ out.old.items ++ reverse bytes.now) }
 {

@@ -1,4 +1,4 @@
-//! Lines of prices of few digits, checked from their start and read from their end.
+//! Lines of prices of few digits. They are checked from their start and read from their end.
 ghost use Rattle.std.specs.Prelude.{◌≡◌, ◌<◌, length, map, reverse, IfOk, IfSome};
 ghost use Rattle.hm_cert.specs.Layout.{told};
 ghost use Rattle.hm_cert.specs.Short.{AreDigits, IsBackTo, IsLastPrice, IsShortLine, IsShortRow, IsShortWord};
@@ -8,7 +8,7 @@ use crate::lines::has_number_form;
 use crate::prices::INFINITE;
 use hm_base::OutOfMemory;
 
-/// How many digits a text begins with.
+/// How many digits a text starts with.
 fn count_digits(text: &[u8]) -> usize
     ensures { AreDigits text.now result }
 {
@@ -20,7 +20,7 @@ fn count_digits(text: &[u8]) -> usize
     text.len()
 }
 
-/// The length of a closed price in bytes, where a text begins with one and something follows.
+/// The length in bytes of an infinite price at the start of a text, if there is one and more text after it.
 fn closed_word(text: &[u8]) -> Option<usize>
     ensures { IfSome result (IsShortWord text.now) }
 {
@@ -30,8 +30,8 @@ fn closed_word(text: &[u8]) -> Option<usize>
     }
 }
 
-/// The length of a price in bytes, where a text begins with one, it is closed or has at most 18 digits, and something
-/// follows.
+/// The length in bytes of a price at the start of a text, if there is one that is infinite or has at most 18 digits,
+/// and more text after it.
 fn short_word(text: &[u8]) -> Option<usize>
     ensures { IfSome result (IsShortWord text.now) }
 {
@@ -48,7 +48,8 @@ fn short_word(text: &[u8]) -> Option<usize>
     Some(len)
 }
 
-/// The length of a price with these first digits, where a text begins with one and something follows.
+/// The length in bytes of a price with these first digits at the start of a text, if there is one and more text after
+/// it.
 fn word_with(known: &LeadingDigits<'_>, text: &[u8]) -> Option<usize>
     ensures { IfSome result (IsShortWord text.now) }
 {
@@ -61,8 +62,7 @@ fn word_with(known: &LeadingDigits<'_>, text: &[u8]) -> Option<usize>
     }
 }
 
-/// As `short_word`, where the first digits of some price are known: this one often has them too. Otherwise its own take
-/// their place.
+/// As `short_word`, given the first digits of an earlier price. If this price has other ones, `known` becomes these.
 fn short_word_like<'a>(text: &'a [u8], known: &mut LeadingDigits<'a>) -> Option<usize>
     ensures { IfSome result (IsShortWord text.now) }
 {
@@ -76,7 +76,7 @@ fn short_word_like<'a>(text: &'a [u8], known: &mut LeadingDigits<'a>) -> Option<
     Some(len)
 }
 
-/// Where the first line of a text ends, in bytes, where each of its words is such a price.
+/// The end of the first line of a text, in bytes, if each of its words is such a price.
 pub(crate) fn short_line<'a>(text: &'a [u8], known: &mut LeadingDigits<'a>) -> Option<usize>
     ensures { IfSome result (IsShortLine text.now) }
 {
@@ -94,7 +94,7 @@ pub(crate) fn short_line<'a>(text: &'a [u8], known: &mut LeadingDigits<'a>) -> O
     None
 }
 
-/// The number that the digits at the end of a text write, of at most 18, and where they begin.
+/// The number of the digits at the end of a text, at most 18, and the byte at which they start.
 fn back_number(text: &[u8]) -> (u64, usize)
     ensures { IsBackTo text.now result.1 result.0 }
 {
@@ -114,7 +114,7 @@ fn back_number(text: &[u8]) -> (u64, usize)
     (number, at)
 }
 
-/// The price that a text ends with and where it begins, where it is closed or has at most 18 digits.
+/// The price at the end of a text and the byte at which it starts, if it is infinite or has at most 18 digits.
 fn back_price(text: &[u8]) -> Option<(u64, usize)>
     ensures { IfSome result (λ found. IsLastPrice text.now found.1 found.0) }
 {
@@ -128,7 +128,7 @@ fn back_price(text: &[u8]) -> Option<(u64, usize)>
     }
 }
 
-/// The price with these first digits that a text ends with, and where it begins.
+/// The price with these first digits at the end of a text, and the byte at which it starts.
 fn price_with(known: &LeadingDigits<'_>, text: &[u8]) -> Option<(u64, usize)>
     ensures { IfSome result (λ found. IsLastPrice text.now found.1 found.0) }
 {
@@ -140,8 +140,7 @@ fn price_with(known: &LeadingDigits<'_>, text: &[u8]) -> Option<(u64, usize)>
     Some((number, at))
 }
 
-/// As `back_price`, where the first digits of some price are known: this one often has them too. Otherwise its own take
-/// their place.
+/// As `back_price`, given the first digits of another price. If this price has other ones, `known` becomes these.
 fn back_price_like<'a>(text: &'a [u8], known: &mut LeadingDigits<'a>) -> Option<(u64, usize)>
     ensures { IfSome result (λ found. IsLastPrice text.now found.1 found.0) }
 {
@@ -167,8 +166,8 @@ fn turn(row: &mut Vec<u64>)
     }
 }
 
-/// Reads the row whose line ends at a place into a list, in place of what is there, a closed price as `INFINITE`. Gives
-/// where the line begins, where each price is closed or has at most 18 digits.
+/// Reads the row whose line ends at byte `end` into a list, whose old items are dropped. An infinite price is
+/// `INFINITE`. Returns the byte at which the line starts, or None if a finite price has more than 18 digits.
 pub(crate) fn short_row_before<'a>(
     text: &'a [u8],
     end: usize,

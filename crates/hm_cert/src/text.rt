@@ -1,4 +1,4 @@
-//! The text of a certificate, from its start.
+//! The text of a certificate, first byte first.
 ghost use Rattle.std.specs.Prelude.{◌≡◌, ℕ, [], ◌∷◌, ◌++◌, map, OnOk, IfOk};
 ghost use Rattle.hm_cert.specs.Certificate.{certificate_text, flag_text, head_lines, more_prices, price_text, row_line, row_text};
 ghost use Rattle.hm_cert.specs.Certificate as text;
@@ -9,7 +9,7 @@ use hm_base::{Format, OutOfMemory, SpellRules};
 use itoa::Buffer;
 use std::alloc::Global;
 
-/// The first line of a certificate of this format, without its line feed.
+/// The first line of a certificate of this format, without its LF.
 pub(crate) fn format_text(format: Format) -> &'static [u8]
     ensures { result.now ≡ text.format_text format }
 {
@@ -37,7 +37,7 @@ pub fn write_certificate(
     Ok(out)
 }
 
-/// Appends the first two lines. Where memory is refused, a part may have been appended.
+/// Appends the first two lines. If an allocation fails, a part of them may have been appended.
 pub fn put_head(out: &mut Vec<u8>, format: Format, rules: SpellRules) -> Result<(), OutOfMemory>
     ensures { OnOk result (out.new.items ≡ out.old.items ++ head_lines format rules) }
 {
@@ -52,7 +52,7 @@ pub fn put_head(out: &mut Vec<u8>, format: Format, rules: SpellRules) -> Result<
     Ok(())
 }
 
-/// Appends a word after a space, where it is set.
+/// Appends a space and a word, if `is_set`.
 fn put_flag(out: &mut Vec<u8>, is_set: bool, word: &[u8]) -> Result<(), OutOfMemory>
     ensures { OnOk result (out.new.items ≡ out.old.items ++ flag_text is_set word.now) }
 {
@@ -63,7 +63,7 @@ fn put_flag(out: &mut Vec<u8>, is_set: bool, word: &[u8]) -> Result<(), OutOfMem
     Ok(())
 }
 
-/// Appends the line of a row. Where memory is refused, a part may have been appended.
+/// Appends the line of a row. If an allocation fails, a part of it may have been appended.
 pub fn put_line(out: &mut Vec<u8>, row: &[u64]) -> Result<(), OutOfMemory>
     ensures { OnOk result (out.new.items ≡ out.old.items ++ row_line (map told row.now)) }
 {
@@ -72,7 +72,7 @@ pub fn put_line(out: &mut Vec<u8>, row: &[u64]) -> Result<(), OutOfMemory>
     Ok(())
 }
 
-/// Appends prices with a space between.
+/// Appends prices with spaces between them.
 fn put_row(out: &mut Vec<u8>, row: &[u64]) -> Result<(), OutOfMemory>
     ensures { OnOk result (out.new.items ≡ out.old.items ++ row_text (map told row.now)) }
 {

@@ -1,4 +1,4 @@
-//! The text of a page that comes in pieces.
+//! The text of a page that is read in pieces.
 ghost use Rattle.std.specs.Prelude.{◌≡◌, ◌+◌, ◌≤◌, ◌++◌, ℕ, List, [], ◌∷◌, Option, Some, None, Ok, Err, true, false, length, take, drop, map, IfOk, OnOk, IfErr, OnErr, MatchOption, IsCharBoundary};
 ghost use Rattle.hm_base.specs.Bytes.{all_pass};
 ghost use Rattle.hm_base.specs.Source.{PlacedByte, byte_of};
@@ -12,20 +12,20 @@ use std::alloc::Global;
 use std::marker::Model;
 use std::{mem, str};
 
-/// A page that comes in pieces, and the text of its bytes so far that later bytes can't change (HTML Standard,
+/// A page that is read in pieces, and the text of its bytes so far that later bytes can't change (HTML Standard,
 /// #the-input-byte-stream).
 ///
-/// Contracts see the text that is kept, with the places of its bytes in the page, the bytes that aren't decided, how many
-/// bytes came, and the fault.
+/// Contracts see the text that is kept, with the places of its bytes in the page, the undecided bytes, how many bytes
+/// were read, and the fault.
 #[derive(Drop)]
 pub struct TextPieces {
     source: SourceText,
-    // A CR, or the front of a character, at the end of what came.
+    /// A CR, or the first bytes of a character, at the end of what was read.
     undecided: Vec<u8>,
     count: u32,
     limit: u32,
     fault: Option<(Rule, u32)>,
-    // Memory was refused.
+    /// An allocation failed earlier.
     is_broken: bool,
     alloc: Global,
 }
@@ -40,7 +40,7 @@ impl Model for TextPieces {
     ghost invariant = { λ p. IsPieces (record { source = p.source; undecided = p.undecided.items; count = p.count; limit = p.limit; fault = p.fault; is_broken = p.is_broken }) };
 }
 
-// The text without its last CR.
+/// The text without a CR at its end.
 fn without_return(text: &str) -> &str
     ensures { result.now ≡ take (decided_len text.now) text.now }
 {
@@ -50,7 +50,8 @@ fn without_return(text: &str) -> &str
     }
 }
 
-// What later bytes can't change of some bytes, which stand at a place of the page, or why they have no text.
+/// The start of some bytes that later bytes can't change, or why they have no text. `place` is the byte of the page at
+/// which they start.
 fn decide(bytes: &[u8], place: u32) -> Result<&str, (Rule, u32)>
     requires { place + length bytes.now ≤ OUTPUT_LIMIT }
     ensures ok { IfOk result (λ text. text.now ≡ take (decided_len bytes.now) bytes.now) }
@@ -78,7 +79,7 @@ fn decide(bytes: &[u8], place: u32) -> Result<&str, (Rule, u32)>
     }
 }
 
-// Puts what comes next in the page after the text.
+/// Appends the next bytes of the page to the text.
 fn grow(alloc: Global, source: &mut SourceText, page: &str) -> Result<(), OutOfMemory>
     requires room { source.old.end + length page.now ≤ OUTPUT_LIMIT }
     requires no_zero { all_pass is_nonzero page.now ≡ true }
@@ -95,7 +96,8 @@ fn grow(alloc: Global, source: &mut SourceText, page: &str) -> Result<(), OutOfM
     source.append(page)
 }
 
-// Puts what is decided of some bytes after the text, and keeps the others. Gives the fault, where the bytes have one.
+/// Appends the decided part of some bytes to the text, and keeps the rest as undecided. Returns their fault, if they
+/// have one.
 fn put(
     alloc: Global,
     source: &mut SourceText,
@@ -119,7 +121,7 @@ fn put(
     }
 }
 
-// Puts what is decided of the next bytes of the page after the text, with those that weren't decided before.
+/// Appends the decided part of the next bytes of the page to the text. The bytes that were undecided before come first.
 fn take_bytes(
     alloc: Global,
     source: &mut SourceText,
@@ -141,7 +143,7 @@ fn take_bytes(
 }
 
 impl TextPieces {
-    /// Before the first byte of a page, of which at most `limit` bytes are read.
+    /// Nothing is read yet. At most `limit` bytes of the page may follow.
     pub fn new(alloc: Global, limit: u32) -> TextPieces
         requires { limit ≤ OUTPUT_LIMIT }
         ensures fed { HasFed result [] [] }
@@ -159,11 +161,11 @@ impl TextPieces {
         }
     }
 
-    /// Takes the next bytes of the page (HTML Standard, #the-input-byte-stream). A piece may end anywhere, within a character
-    /// or a line end too.
+    /// Reads the next bytes of the page (HTML Standard, #the-input-byte-stream). A piece may end anywhere, also inside
+    /// a character or a line end.
     ///
-    /// Where memory is refused, each later call of this and of `finish` is refused too. After a fault the bytes are read
-    /// for the limit alone.
+    /// After a failed allocation each later call of this and of `finish` fails. After a fault the bytes are only
+    /// counted, for the limit.
     pub fn feed(&mut self, piece: &[u8]) -> Result<(), OutOfMemory>
         ensures fed { OnOk result ((gone : List PlacedByte) (fed : List ℕ) → HasFed self.old gone fed → HasFed self.new gone (fed ++ piece.now)) }
         ensures sound { OnOk result ((self.old.is_broken ≡ false) × (self.new.is_broken ≡ false)) }
@@ -190,9 +192,9 @@ impl TextPieces {
         Ok(())
     }
 
-    /// Takes the end of the page: a CR there is a line end, and a character that isn't whole there is a fault.
+    /// Ends the page: a CR at its end is a line end, and an incomplete character there is a fault.
     ///
-    /// Memory can be refused, since the line end needs a byte.
+    /// It can fail, since the line end needs a byte.
     pub fn finish(&mut self) -> Result<(), OutOfMemory>
         ensures page { OnOk result ((gone : List PlacedByte) (page : List ℕ) → HasFed self.old gone page → HasPage self.new gone page) }
         ensures sound { OnOk result (self.old.is_broken ≡ false) }
@@ -217,26 +219,26 @@ impl TextPieces {
     }
 
     /// Why the page has no text, whatever follows: the rule, and its place in bytes of the page. `TooLong` comes before
-    /// `NotUtf8` and `Nul`, else the earlier place.
+    /// `NotUtf8` and `Nul`; of these two the first in the page counts.
     pub fn fault(&self) -> Option<(Rule, u32)>
         ensures { result ≡ self.now.fault }
     {
         self.fault
     }
 
-    /// The decided text without what was dropped. Where there is a fault, it is of no use.
+    /// The decided text without its dropped part. It means nothing after a fault.
     pub fn source(&self) -> &SourceText
         ensures { result.now ≡ self.now.source }
     {
         &self.source
     }
 
-    /// Frees the memory, that of a long text where it stands (`SourceText::release`).
+    /// Frees the memory: see `SourceText::release`.
     pub fn release(self) {
         self.source.release();
     }
 
-    /// Drops the first `n` bytes of the text. The others keep their places in the page. No memory is asked for.
+    /// Drops the first `n` bytes of the text. The others keep their places in the page. It allocates nothing.
     pub fn drop_front(&mut self, n: u32)
         requires inside { n ≤ length self.old.source.placed }
         requires boundary { IsCharBoundary (map byte_of self.old.source.placed) n }

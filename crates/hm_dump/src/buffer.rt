@@ -1,24 +1,24 @@
-//! Bytes on their way to a sink.
+//! Bytes that are collected before they are written to a sink.
 ghost use Rattle.std.specs.Prelude.{◌≡◌, ◌+◌, ◌≤◌, ◌++◌, [], length, vec_len, vec_capacity};
 ghost use Rattle.hm_dump.specs.Given.{Gives, IsFresh, Puts};
 
 use hm_store::Sink;
 
-/// Bytes that wait until they are put to a sink together. Once a put has failed, no further one is made.
+/// Bytes that are written to a sink together. After a failed put nothing more is written.
 #[derive(Drop)]
 pub struct Buffer {
     pub bytes: Vec<u8>,
     pub failed: bool,
 }
 
-/// Puts bytes, unless a put has failed before, and says whether one has failed.
+/// Writes bytes, unless a put has failed before. Returns whether one has failed.
 fn put_to<O: Sink>(out: &mut O, failed: bool, bytes: &[u8]) -> bool
     ensures { Puts (O.contents out.old) (O.contents out.new) (O.faults out.old) (O.faults out.new) failed result bytes.now }
 {
     failed || out.put(bytes).is_err()
 }
 
-/// Appends bytes for which there is room.
+/// Appends bytes. There is room for them.
 fn append(waiting: &mut Vec<u8>, bytes: &[u8])
     requires { vec_len waiting.old + length bytes.now ≤ vec_capacity waiting.old }
     ensures { waiting.new.items ≡ waiting.old.items ++ bytes.now }
@@ -27,7 +27,7 @@ fn append(waiting: &mut Vec<u8>, bytes: &[u8])
 }
 
 impl Buffer {
-    /// A buffer with the room of a list, which is emptied.
+    /// An empty buffer with the room of a list, whose bytes are dropped.
     pub fn of(mut bytes: Vec<u8>) -> Buffer
         ensures { IsFresh result }
     {
@@ -38,7 +38,7 @@ impl Buffer {
         }
     }
 
-    /// Gives bytes. They wait where there is room; more bytes than the whole room never wait.
+    /// Adds bytes. They are kept if there is room. More bytes than the whole room are written at once.
     #[inline(always)]
     pub fn give<O: Sink>(&mut self, out: &mut O, bytes: &[u8])
         ensures { Gives (O.contents out.old) (O.contents out.new) (O.faults out.old) (O.faults out.new) self.old self.new bytes.now }
@@ -50,7 +50,7 @@ impl Buffer {
         }
     }
 
-    /// Puts what waits, and gives the bytes then.
+    /// Writes the bytes that are kept, and then adds these.
     #[cold]
     #[inline(never)]
     fn give_after<O: Sink>(&mut self, out: &mut O, bytes: &[u8])
@@ -64,7 +64,7 @@ impl Buffer {
         }
     }
 
-    /// Puts what waits.
+    /// Writes the bytes that are kept.
     pub fn flush<O: Sink>(&mut self, out: &mut O)
         ensures gives { Gives (O.contents out.old) (O.contents out.new) (O.faults out.old) (O.faults out.new) self.old self.new [] }
         ensures empty { self.new.bytes.items ≡ [] }

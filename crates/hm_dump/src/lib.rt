@@ -1,4 +1,4 @@
-//! The lines of a tree, as `tree` prints them, put to a sink in pieces.
+//! The lines of a tree, as `tree` prints them, written to a sink in pieces.
 #![tactic(auto)]
 
 mod buffer;

@@ -1,4 +1,4 @@
-//! The lines of a tree, given piece by piece.
+//! The lines of a tree, piece by piece.
 ghost use Rattle.std.specs.Prelude.{◌≡◌, ◌+◌, ◌^◌, ◌<◌, ◌≤◌, ◌++◌, ◌∷◌, [], List, flat_map, length, get_or};
 ghost use Rattle.hm_base.specs.Walks.{Element, doctype, path_after_event};
 ghost use Rattle.hm_dump.specs.Dump.{attribute_text, dump_of, event_text, line_of, quoted_byte, spaces_for};
@@ -10,10 +10,10 @@ use crate::runs::plain_end;
 use hm_store::Sink;
 use hm_tree::{AttrsView, EventView, Tree};
 
-/// Spaces, two for each of 32 open elements.
+/// The spaces for 32 open elements, two for each.
 const SPACES: &[u8] = b"                                                                ";
 
-/// Gives the lines of a tree, up to one after which a put has failed.
+/// Writes the lines of a tree. Stops after a line if a put has failed.
 pub(crate) fn give_lines<O: Sink>(buffer: &mut Buffer, out: &mut O, tree: &Tree)
     ensures { Gives (O.contents out.old) (O.contents out.new) (O.faults out.old) (O.faults out.new) buffer.old buffer.new (dump_of tree.now) }
 {
@@ -28,7 +28,7 @@ pub(crate) fn give_lines<O: Sink>(buffer: &mut Buffer, out: &mut O, tree: &Tree)
     }
 }
 
-/// How many elements are open after an event, by those that are open before it.
+/// How many elements are open after an event. `depth` is how many are open before it.
 fn depth_after_event(depth: u32, event: &EventView<'_>) -> u32
     requires { depth + 1 < 2 ^ 32 }
     ensures depth { (path : List Element) → depth ≡ length path → result ≡ length (path_after_event path (event_of event.now)) }
@@ -41,7 +41,7 @@ fn depth_after_event(depth: u32, event: &EventView<'_>) -> u32
     }
 }
 
-/// Gives the line of an event under `depth` open elements.
+/// Writes the line of an event, if it has one. `depth` elements are open.
 fn give_line<O: Sink>(buffer: &mut Buffer, out: &mut O, depth: u32, event: &EventView<'_>)
     ensures { Gives (O.contents out.old) (O.contents out.new) (O.faults out.old) (O.faults out.new) buffer.old buffer.new (line_of depth (event_of event.now)) }
 {
@@ -53,7 +53,7 @@ fn give_line<O: Sink>(buffer: &mut Buffer, out: &mut O, depth: u32, event: &Even
     buffer.give(out, b"\n");
 }
 
-/// Gives two spaces for each open element.
+/// Writes two spaces for each open element.
 fn give_spaces<O: Sink>(buffer: &mut Buffer, out: &mut O, depth: u32)
     ensures { Gives (O.contents out.old) (O.contents out.new) (O.faults out.old) (O.faults out.new) buffer.old buffer.new (spaces_for depth) }
 {
@@ -65,7 +65,7 @@ fn give_spaces<O: Sink>(buffer: &mut Buffer, out: &mut O, depth: u32)
     buffer.give(out, &SPACES[..left]);
 }
 
-/// Gives what the line of an event says after its spaces.
+/// Writes the line of an event without its spaces and its end.
 fn give_event<O: Sink>(buffer: &mut Buffer, out: &mut O, event: &EventView<'_>)
     ensures { Gives (O.contents out.old) (O.contents out.new) (O.faults out.old) (O.faults out.new) buffer.old buffer.new (event_text (event_of event.now)) }
 {
@@ -82,6 +82,7 @@ fn give_event<O: Sink>(buffer: &mut Buffer, out: &mut O, event: &EventView<'_>)
     }
 }
 
+/// The line of a doctype.
 fn doctype_text(legacy: bool) -> &'static [u8]
     ensures { result.now ≡ event_text (doctype legacy) }
 {
@@ -92,6 +93,7 @@ fn doctype_text(legacy: bool) -> &'static [u8]
     }
 }
 
+/// Writes the attributes of a start, each with a space before it.
 fn give_attributes<O: Sink>(buffer: &mut Buffer, out: &mut O, attrs: &AttrsView<'_>)
     ensures { Gives (O.contents out.old) (O.contents out.new) (O.faults out.old) (O.faults out.new) buffer.old buffer.new (flat_map attribute_text (attributes_shown attrs.now)) }
 {
@@ -101,6 +103,7 @@ fn give_attributes<O: Sink>(buffer: &mut Buffer, out: &mut O, attrs: &AttrsView<
     }
 }
 
+/// Writes one attribute with a space before it.
 fn give_attribute<O: Sink>(buffer: &mut Buffer, out: &mut O, name: &str, value: &str)
     ensures { Gives (O.contents out.old) (O.contents out.new) (O.faults out.old) (O.faults out.new) buffer.old buffer.new (attribute_text (record { name = name.now; value = value.now })) }
 {
@@ -109,7 +112,7 @@ fn give_attribute<O: Sink>(buffer: &mut Buffer, out: &mut O, name: &str, value: 
     give_quoted(buffer, out, b"=\"", value);
 }
 
-/// Gives the bytes before a text in quotes, with the first quote, and then the text and the last quote.
+/// Writes `before`, which ends in a quote, then a text, escaped, and the last quote.
 fn give_quoted<O: Sink>(buffer: &mut Buffer, out: &mut O, before: &[u8], text: &str)
     ensures { Gives (O.contents out.old) (O.contents out.new) (O.faults out.old) (O.faults out.new) buffer.old buffer.new (before.now ++ (flat_map quoted_byte text.now ++ 34 ∷ [])) }
 {
@@ -118,7 +121,7 @@ fn give_quoted<O: Sink>(buffer: &mut Buffer, out: &mut O, before: &[u8], text: &
     buffer.give(out, b"\"");
 }
 
-/// Gives a text as it stands in quotes, in runs between the bytes that are escaped.
+/// Writes a text, escaped for quotes. Bytes without escapes are written together.
 fn give_escaped<O: Sink>(buffer: &mut Buffer, out: &mut O, bytes: &[u8])
     ensures { Gives (O.contents out.old) (O.contents out.new) (O.faults out.old) (O.faults out.new) buffer.old buffer.new (flat_map quoted_byte bytes.now) }
 {
@@ -134,7 +137,7 @@ fn give_escaped<O: Sink>(buffer: &mut Buffer, out: &mut O, bytes: &[u8])
     }
 }
 
-/// What stands inside quotes for a byte.
+/// The escaped form of the byte at `at` inside quotes.
 fn escaped(bytes: &[u8], at: usize) -> &[u8]
     requires { at < length bytes.now }
     ensures { result.now ≡ quoted_byte (get_or bytes.now at 0) }

@@ -1,10 +1,11 @@
-//! Runs of bytes that stand for themselves inside quotes.
+//! Runs of bytes that need no escape inside quotes.
 ghost use Rattle.std.specs.Prelude.{◌≡◌, ◌≤◌, ◌<◌, length};
 ghost use Rattle.hm_base.specs.Bytes.{some_passes};
 ghost use Rattle.hm_dump.specs.Runs as runs;
 ghost use Rattle.hm_dump.specs.Runs.{IsPlainRun};
 
-/// Whether the byte is escaped inside quotes. Each test is made, so that many bytes are tested at once.
+/// Whether the byte is escaped inside quotes. Every comparison is made, without a branch, so that many bytes can be
+/// tested at once.
 #[tactic(auto, unfolding(crate::specs::Runs::is_escaped))]
 fn is_escaped(byte: u8) -> bool
     ensures { result ≡ runs.is_escaped byte }
@@ -12,7 +13,7 @@ fn is_escaped(byte: u8) -> bool
     (byte == b'"') | (byte == b'\\') | (byte == b'\n') | (byte == b'\r') | (byte == b'\t')
 }
 
-/// Whether one of the bytes is escaped. All are looked at, with no branch between them.
+/// Whether one of the bytes is escaped. All are tested, without a branch.
 fn has_escaped(bytes: &[u8]) -> bool
     ensures { result ≡ some_passes runs.is_escaped bytes.now }
 {
@@ -23,7 +24,7 @@ fn has_escaped(bytes: &[u8]) -> bool
     found != 0
 }
 
-/// Goes on from a place by `width` bytes at a time, as long as none of them is escaped.
+/// Advances by `width` bytes at a time, as long as none of them is escaped.
 #[inline(always)]
 fn skip_plain(bytes: &[u8], from: usize, width: usize) -> usize
     requires inside { from ≤ length bytes.now }
@@ -39,7 +40,7 @@ fn skip_plain(bytes: &[u8], from: usize, width: usize) -> usize
     at
 }
 
-/// Where the next byte is that is escaped, or the end: most of the way by 16 bytes, and the rest by 4 and by 1.
+/// The next byte that is escaped, or the end. Most of the way is by 16 bytes at a time, the rest by 4 and by 1.
 pub(crate) fn plain_end(bytes: &[u8], from: usize) -> usize
     requires { from ≤ length bytes.now }
     ensures forward { from ≤ result }

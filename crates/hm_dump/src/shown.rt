@@ -13,11 +13,11 @@ use hm_tree::Tree;
 use std::alloc::Global;
 use std::marker::Model;
 
-/// How many bytes of lines wait at most until they are put together.
+/// The most bytes of lines that are kept before they are written together.
 const ROOM: usize = 65_536;
 
-/// A tree as text: a line for each doctype, start, text and comment, after two spaces for each open element, as `doctype`,
-/// `element p id="x"`, `text "a"` and `comment "c"`. Contracts see the bytes of the lines.
+/// A tree as text: a line for each doctype, start, text and comment, after two spaces for each open element, as
+/// `doctype`, `element p id="x"`, `text "a"` and `comment "c"`. Contracts see the bytes of the lines.
 #[derive(Drop)]
 pub struct Shown {
     tree: Tree,
@@ -34,7 +34,7 @@ impl Model for Shown {
 }
 
 impl Shown {
-    /// The lines of a tree. All memory that it takes to put them is taken here, and it is the same for every tree.
+    /// The lines of a tree. All memory that `put` needs is taken here, the same for each tree.
     pub fn of(alloc: Global, tree: Tree) -> Result<Shown, OutOfMemory>
         ensures { IfOk result (λ shown. shown ≡ dump_of tree) }
     {
@@ -42,7 +42,7 @@ impl Shown {
         Ok(Shown { tree, room })
     }
 
-    /// Puts the lines one after the other. They never stand in memory together.
+    /// Writes the lines one after the other. They are never in memory all together.
     pub fn put<O: Sink>(self, out: &mut O) -> Result<(), Failed>
         ensures ok { OnOk result (O.contents out.new ≡ append_known (O.contents out.old) self) }
         ensures err { OnErr result (AppendsFront (O.contents out.old) (O.contents out.new) self) }

@@ -71,11 +71,11 @@ abbrev pub EndsAreOthers : Type 0
 EndsAreOthers = (c n : List ℕ) → ends_with c n ≡ true → bytes_eq c n ≡ false
 
 -- Where an end tag may be left out:
--- before a start tag that may stand there too, the element yields to it
+-- before a start tag that may stand there too, which then closes the element
 abbrev pub LeftOpenYields : Type 0
 LeftOpenYields = (c k t : List ℕ) (g : Option (List ℕ)) → may_stand c t g ≡ true → may_stand k t g ≡ true → end_tag_optional_before c k ≡ true → is_closed_by_start c k ≡ true
 
--- before a start tag that is left out too, the element yields to the tag that is written
+-- before a start tag that is left out too, the tag that is written closes the element
 abbrev pub LeftOpenYieldsInside : Type 0
 LeftOpenYieldsInside = (c n k : List ℕ) → end_tag_optional_before c n ≡ true → start_tag_required_after c n ≡ false → start_tag_optional_before n k ≡ true → is_closed_by_start c k ≡ true
 

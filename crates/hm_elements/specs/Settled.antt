@@ -81,8 +81,8 @@ abbrev pub all_events : (List Element → Event → List Event → Bool) → Lis
 all_events test path [] = true
 all_events test path (e ∷ w) = test path e w && all_events test (path_after_event path e) w
 
--- 3. Every other HTML element stands in an HTML element that may hold it and doesn't yield to it. It has a name that is
--- read. It stands neither in a paragraph that it would close nor in an element of its own kind.
+-- 3. Every other HTML element stands in an HTML element that may hold it and that its start tag doesn't close. It has a
+-- name that is read. It stands neither in a paragraph that it would close nor in an element of its own kind.
 unfoldable pub nests : List Element → Event → List Event → Bool
 nests path (start n foreign attributes) w =
     if foreign || is_root n then true

@@ -1,4 +1,4 @@
-//! Classes of elements, and lists of elements and attributes, by name.
+//! Classes of elements, and lists of elements and attributes by name.
 ghost use Rattle.std.specs.Prelude.{◌≡◌};
 ghost use Rattle.hm_elements.specs.Classes as classes;
 ghost use Rattle.hm_elements.specs.Tables as tables;
@@ -6,20 +6,20 @@ ghost use Rattle.hm_elements.specs.Tables as tables;
 use crate::kind::kind_of;
 use crate::look_up::is_one_of;
 
-/// What kind of element a name stands for.
+/// The class of an element, by what it may contain and how its text is read.
 #[derive(Clone, Copy, Debug, PartialEq, Eq)]
 pub enum Class {
     /// `html`, `head`, `body`.
     Root,
-    /// It holds nothing and has no end tag (HTML Standard, #elements-2).
+    /// It has no children and no end tag (HTML Standard, #elements-2).
     Void,
-    /// It holds one text, in which character references are read.
+    /// It holds one text, whose character references are read.
     Rcdata,
-    /// It holds one text, in which nothing is read.
+    /// It holds one text, in which nothing is read: no tags, no comments and no character references.
     Raw,
-    /// `script`, whose text ends by rules of its own.
+    /// `script`: as `Raw`, but its text ends by rules of its own.
     Script,
-    /// `table` and what stands in it, except for `col`, which is void.
+    /// `table` and the elements that are only in tables, except for `col`, which is void.
     TablePart,
     Ordinary,
     /// A page with this element is refused.
@@ -27,14 +27,14 @@ pub enum Class {
 }
 
 impl Class {
-    /// Whether its elements hold nothing.
+    /// Whether elements of this class have no children and no end tag.
     pub(crate) fn holds_nothing(self) -> bool
         ensures { result ≡ classes.holds_nothing self }
     {
         matches!(self, Class::Void)
     }
 
-    /// Whether its elements hold one text, in which nothing is read.
+    /// Whether elements of this class hold one text, in which nothing is read.
     fn holds_raw_text(self) -> bool
         ensures { result ≡ classes.holds_raw_text self }
     {
@@ -48,7 +48,7 @@ impl Class {
         matches!(self, Class::Rcdata | Class::Raw | Class::Script)
     }
 
-    /// Whether a page with one of its elements is refused.
+    /// Whether a page with an element of this class is refused.
     fn is_not_read(self) -> bool
         ensures { result ≡ classes.is_not_read self }
     {
@@ -63,7 +63,7 @@ pub fn class_of(name: &str) -> Class
     kind_of(name).class
 }
 
-/// Whether the HTML element holds nothing and has no end tag (#elements-2).
+/// Whether the HTML element has no children and no end tag (#elements-2).
 #[tactic(auto, using(crate::proofs::ClassFacts::void_by_class))]
 pub fn is_void(name: &str) -> bool
     ensures { result ≡ tables.is_void name.now }
@@ -71,7 +71,7 @@ pub fn is_void(name: &str) -> bool
     kind_of(name).class.holds_nothing()
 }
 
-/// Whether the HTML element holds one text, in which nothing is read; `script` is one of them.
+/// Whether the HTML element holds one text, in which nothing is read. `script` is one of them.
 #[tactic(auto, using(crate::proofs::ClassFacts::raw_by_class))]
 pub fn is_raw(name: &str) -> bool
     ensures { result ≡ tables.is_raw name.now }
@@ -102,7 +102,7 @@ pub fn is_heading(name: &str) -> bool
     kind_of(name).heading
 }
 
-/// Whether the element may not stand in one of its own name.
+/// Whether the element may not be inside one of the same name.
 pub fn is_unnested(name: &str) -> bool
     ensures { result ≡ tables.is_unnested name.now }
 {
@@ -116,7 +116,7 @@ pub fn closes_p(name: &str) -> bool
     kind_of(name).closes_p
 }
 
-/// Whether a paragraph is never closed through this open element, of HTML or of SVG.
+/// Whether no paragraph around this open element is closed from inside it. `foreign` is true for an element of SVG.
 #[tactic(auto, unfolding(crate::specs::Tables::is_boundary, crate::specs::Tables::svg_boundaries))]
 pub fn is_boundary(name: &str, foreign: bool) -> bool
     ensures { result ≡ tables.is_boundary name.now foreign }
@@ -128,14 +128,14 @@ pub fn is_boundary(name: &str, foreign: bool) -> bool
     }
 }
 
-/// Whether whitespace at the edges of the HTML element isn't seen.
+/// Whether whitespace at the edges of the HTML element isn't rendered.
 pub fn is_block(name: &str) -> bool
     ensures { result ≡ tables.is_block name.now }
 {
     kind_of(name).block
 }
 
-/// Whether the attribute's value says nothing.
+/// Whether it is a boolean attribute: its value means nothing.
 #[tactic(auto, unfolding(crate::specs::Tables::is_boolean, crate::specs::Tables::boolean_attributes))]
 pub fn is_boolean(attribute: &str) -> bool
     ensures { result ≡ tables.is_boolean attribute.now }
@@ -171,6 +171,7 @@ pub fn is_boolean(attribute: &str) -> bool
     )
 }
 
+/// The names of SVG's elements that are allowed, in lowercase letters.
 const SVG: [&str; 61] = [
     "a",
     "animate",
@@ -235,7 +236,7 @@ const SVG: [&str; 61] = [
     "view",
 ];
 
-/// Whether SVG has an element of this name that is read, in lowercase letters (#elements-2).
+/// Whether an SVG element of this name is allowed. The name is in lowercase letters (#elements-2).
 #[tactic(auto, unfolding(crate::specs::Tables::is_svg_name, crate::specs::Tables::svg_names))]
 pub fn svg_name(name: &str) -> bool
     ensures { result ≡ tables.is_svg_name name.now }

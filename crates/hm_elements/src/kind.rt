@@ -1,4 +1,4 @@
-//! What the tables say of a name, all at once.
+//! All that the tables say about a name, in one value.
 ghost use Rattle.std.specs.Prelude.{◌≡◌};
 ghost use Rattle.std.specs.Option.{ForSome};
 ghost use Rattle.hm_elements.specs.Kinds as kinds;
@@ -10,37 +10,37 @@ use crate::known::{Known, OTHER, UNKNOWN, beginning_with};
 use crate::known_name::KnownName;
 use crate::look_up::same_name;
 
-/// What the tables say of a name of an HTML element.
+/// All that the tables say about the name of an HTML element.
 #[derive(Clone, Copy)]
 pub struct Kind {
     pub class: Class,
     /// One of `h1` to `h6`.
     pub heading: bool,
-    /// It may not stand in one of its own name.
+    /// It may not be inside one of the same name.
     pub unnested: bool,
     /// Its start tag closes an open paragraph (HTML Standard, #parsing-main-inbody).
     pub closes_p: bool,
-    /// A paragraph is never closed through it.
+    /// No paragraph around it is closed from inside it.
     pub boundary: bool,
-    /// Whitespace at its edges isn't seen.
+    /// Whitespace at its edges isn't rendered.
     pub block: bool,
-    /// It closes before some start tags.
+    /// Some start tags close it.
     pub is_closed_by_start: bool,
-    /// A `p` that is the innermost element closes before its start tag.
+    /// Its start tag closes a `p` that is the innermost element.
     pub closes_open_p: bool,
-    /// It ends with some end tags of other names (#optional-tags).
+    /// Some end tags of other names close it (#optional-tags).
     pub ends: bool,
-    /// A `p` ends with its end tag.
+    /// Its end tag closes a `p` that is the innermost element.
     pub p_ends: bool,
-    /// It takes only children of certain names.
+    /// Only children of certain names are allowed in it.
     pub has_children: bool,
-    /// Where its parent takes any children, it stands only in parents of certain names.
+    /// If its parent allows any children, only parents of certain names are allowed.
     pub has_parents: bool,
-    /// It stands only in parents that take only children of certain names.
+    /// It is only allowed in parents that list their children by name.
     pub bound: bool,
 }
 
-/// What the tables say of the name.
+/// What the tables say about the name.
 pub fn kind_of(name: &str) -> Kind
     ensures { result ≡ kinds.kind name.now }
 {
@@ -50,7 +50,7 @@ pub fn kind_of(name: &str) -> Kind
     }
 }
 
-/// The name with its kind, if it is known.
+/// The name with its kind, if it is a known one.
 fn find_known(name: &str) -> Option<&'static Known>
     ensures kind { kind_at result ≡ kinds.kind name.now }
     ensures name { HasName name.now result }
@@ -61,7 +61,7 @@ fn find_known(name: &str) -> Option<&'static Known>
     }
 }
 
-/// The name with its kind, if one of these is it.
+/// The name with its kind, if it is among these.
 fn find_among(name: &str, among: &'static [Known]) -> Option<&'static Known>
     ensures kind { kind_at result ≡ kind_in among.now name.now }
     ensures name { HasName name.now result }
@@ -74,7 +74,7 @@ fn find_among(name: &str, among: &'static [Known]) -> Option<&'static Known>
     None
 }
 
-/// A name of an HTML element, with what the tables say of it: looked up once, and kept.
+/// The name of an HTML element, with what the tables say about it. It is looked up once, and then kept.
 #[derive(Clone, Copy)]
 pub struct Named<'n> {
     name: &'n str,
@@ -85,7 +85,7 @@ pub struct Named<'n> {
 }
 
 impl<'n> Named<'n> {
-    /// The name, looked up in the tables.
+    /// The name with its kind from the tables.
     pub fn of(name: &'n str) -> Named<'n>
         ensures { result.name.now ≡ name.now }
     {
@@ -103,7 +103,7 @@ impl<'n> Named<'n> {
         }
     }
 
-    /// The name with its kind, which is known from an earlier look-up.
+    /// The name with its kind from an earlier look-up.
     pub fn known(name: &'n str, kind: &'n Kind) -> Named<'n>
         requires { kind.now ≡ kinds.kind name.now }
         ensures { result.name.now ≡ name.now }
@@ -122,21 +122,21 @@ impl<'n> Named<'n> {
         self.name
     }
 
-    /// What the tables say of it.
+    /// What the tables say about the name.
     pub fn kind(self) -> &'n Kind
         ensures { result.now ≡ kinds.kind self.entry.name.now }
     {
         self.kind
     }
 
-    /// The name as its table holds it, where it was looked up and is known.
+    /// The name as a constant of the program. None if it is unknown, or was given by `known`.
     pub fn known_name(self) -> Option<KnownName>
         ensures { ForSome result (λ t. t.text.now ≡ self.entry.name.now) }
     {
         self.text
     }
 
-    /// Whether the HTML element holds nothing and has no end tag (HTML Standard, #elements-2).
+    /// Whether the HTML element has no children and no end tag (HTML Standard, #elements-2).
     #[tactic(auto, using(crate::proofs::ClassFacts::void_by_class))]
     pub fn is_void(self) -> bool
         ensures { result ≡ tables.is_void self.entry.name.now }

@@ -1,4 +1,4 @@
-//! The names of HTML elements of which some table says something, and other common ones, each with what all tables say of it.
+//! The names of HTML elements that are in some table, and other common ones, each with what all tables say about it.
 ghost use Rattle.std.specs.Prelude.{◌≡◌, length};
 ghost use Rattle.hm_elements.specs.KnownNames.{TellsKinds, GroupsTell};
 
@@ -8,7 +8,7 @@ use crate::kind::Kind;
 /// A known name, with its kind.
 pub(crate) type Known = (&'static str, Kind);
 
-/// What the tables say of a name that none of them lists.
+/// What the tables say about a name that is in none of them.
 pub(crate) const OTHER: Kind = Kind {
     class: Class::Ordinary,
     heading: false,
@@ -40,7 +40,7 @@ const BLOCK: Kind = Kind {
     ..OTHER
 };
 
-/// Elements with which a page is refused.
+/// Elements that refuse a page.
 const REFUSED: Kind = Kind {
     class: Class::Refused,
     ..OTHER
@@ -53,6 +53,7 @@ const VOID: Kind = Kind {
     ..OTHER
 };
 
+/// `base`.
 const BASE: Kind = Kind {
     class: Class::Void,
     has_children: true,
@@ -60,6 +61,7 @@ const BASE: Kind = Kind {
     ..OTHER
 };
 
+/// `body`.
 const BODY: Kind = Kind {
     class: Class::Root,
     block: true,
@@ -67,6 +69,7 @@ const BODY: Kind = Kind {
     ..OTHER
 };
 
+/// `button`.
 const BUTTON: Kind = Kind {
     unnested: true,
     boundary: true,
@@ -87,6 +90,7 @@ const CELL: Kind = Kind {
     ..OTHER
 };
 
+/// `col`.
 const COL: Kind = Kind {
     class: Class::Void,
     block: true,
@@ -96,6 +100,7 @@ const COL: Kind = Kind {
     ..OTHER
 };
 
+/// `colgroup`.
 const COLGROUP: Kind = Kind {
     class: Class::TablePart,
     block: true,
@@ -119,6 +124,7 @@ const ITEM: Kind = Kind {
     ..OTHER
 };
 
+/// `form`.
 const FORM: Kind = Kind {
     unnested: true,
     closes_p: true,
@@ -138,6 +144,7 @@ const HEADING: Kind = Kind {
     ..OTHER
 };
 
+/// `head`.
 const HEAD: Kind = Kind {
     class: Class::Root,
     block: true,
@@ -156,6 +163,7 @@ const RULE: Kind = Kind {
     ..OTHER
 };
 
+/// `html`.
 const HTML: Kind = Kind {
     class: Class::Root,
     boundary: true,
@@ -171,11 +179,13 @@ const RAW: Kind = Kind {
     ..OTHER
 };
 
+/// `legend`.
 const LEGEND: Kind = Kind {
     block: true,
     ..OTHER
 };
 
+/// `object`.
 const OBJECT: Kind = Kind {
     boundary: true,
     p_ends: true,
@@ -211,17 +221,20 @@ const RUBY_TEXT: Kind = Kind {
     ..OTHER
 };
 
+/// `script`.
 const SCRIPT: Kind = Kind {
     class: Class::Script,
     has_children: true,
     ..OTHER
 };
 
+/// `select`.
 const SELECT: Kind = Kind {
     has_children: true,
     ..OTHER
 };
 
+/// `table`.
 const TABLE: Kind = Kind {
     class: Class::TablePart,
     closes_p: true,
@@ -246,12 +259,14 @@ const PART: Kind = Kind {
     ..OTHER
 };
 
+/// `textarea`.
 const TEXTAREA: Kind = Kind {
     class: Class::Rcdata,
     has_children: true,
     ..OTHER
 };
 
+/// `title`.
 const TITLE: Kind = Kind {
     class: Class::Rcdata,
     block: true,
@@ -260,11 +275,11 @@ const TITLE: Kind = Kind {
     ..OTHER
 };
 
-/// The kind of each name that is not known.
+/// The kind of each unknown name.
 pub(crate) static UNKNOWN: Kind = OTHER;
 
-/// The names that the tables list, and common ones of which they say nothing, by their first letter, from `a` to `z`;
-/// those that pages have most come first.
+/// The names that are in some table, and common ones that are in none, by their first letter, from `a` to `z`. Those
+/// that are frequent in pages come first.
 static KNOWN: [&[Known]; 26] = [
     &[
         ("a", UNNESTED),
@@ -439,7 +454,7 @@ static KNOWN: [&[Known]; 26] = [
     &[],
 ];
 
-/// The groups of the table.
+/// The names by their first letter.
 fn groups() -> &'static [&'static [Known]]
     ensures len { length result.now ≡ 26 }
     ensures groups { GroupsTell result.now }
@@ -447,7 +462,7 @@ fn groups() -> &'static [&'static [Known]]
     &KNOWN
 }
 
-/// The known names that begin with this byte.
+/// The known names that start with this byte.
 pub(crate) fn beginning_with(first: u8) -> &'static [Known]
     ensures { TellsKinds first result.now }
 {

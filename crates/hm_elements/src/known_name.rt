@@ -1,8 +1,8 @@
-//! Known names as their table holds them.
+//! Known names as constants of the program.
 ghost use Rattle.std.specs.Prelude.{◌≡◌, true};
 ghost use Rattle.std.specs.Str.{is_utf8};
 
-/// A known name as its table holds it, which takes no memory.
+/// A known name: a constant of the program, which needs no allocation.
 #[derive(Clone, Copy)]
 pub struct KnownName {
     text: &'static str,

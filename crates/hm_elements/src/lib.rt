@@ -1,4 +1,5 @@
-//! The tables of names of elements and attributes, and which trees are settled.
+//! The tables of names of elements and attributes, and which trees are settled: those that some page gives without any
+//! repair.
 #![tactic(auto)]
 
 mod class;

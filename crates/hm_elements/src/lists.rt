@@ -1,4 +1,4 @@
-//! Lists of elements and attributes that single rules of tree construction and of rewriting ask for.
+//! Lists of elements and attributes for single rules of tree construction and of rewrites.
 ghost use Rattle.std.specs.Prelude.{◌≡◌, map};
 ghost use Rattle.std.specs.Str.{str_eq_ignore_ascii_case};
 ghost use Rattle.hm_base.specs.Bytes.{lower};
@@ -17,7 +17,7 @@ pub fn is_root(name: &str) -> bool
     is_one_of(name, &["html", "head", "body"])
 }
 
-/// Whether the HTML element holds one text, in which character references are read.
+/// Whether the HTML element holds one text, whose character references are read.
 #[tactic(auto, unfolding(crate::specs::Tables::is_rcdata, crate::specs::Tables::rcdata_names))]
 pub fn is_rcdata(name: &str) -> bool
     ensures { result ≡ tables.is_rcdata name.now }
@@ -40,7 +40,7 @@ pub fn is_cell(name: &str) -> bool
     is_one_of(name, &["td", "th"])
 }
 
-/// Whether the element is metadata, which doesn't stand between `head` and `body` (HTML Standard,
+/// Whether the element is metadata, which isn't allowed between `head` and `body` (HTML Standard,
 /// #the-after-head-insertion-mode).
 #[tactic(auto, unfolding(crate::specs::Tables::is_metadata))]
 pub fn is_metadata(name: &str) -> bool
@@ -49,7 +49,7 @@ pub fn is_metadata(name: &str) -> bool
     is_one_of(name, &["base", "link", "meta", "script", "style", "title"])
 }
 
-/// Whether whitespace is seen as it is in the HTML element, and a line feed directly after its start tag is dropped
+/// Whether all whitespace in the HTML element is rendered, and an LF directly after its start tag is dropped
 /// (#parsing-main-inbody).
 pub fn is_preformatted(name: &str) -> bool
     ensures { result ≡ is_among name.now tables.preformatted }
@@ -57,7 +57,7 @@ pub fn is_preformatted(name: &str) -> bool
     is_one_of(name, &["pre", "textarea"])
 }
 
-/// Whether a text directly in the HTML element is only whitespace.
+/// Whether only whitespace is allowed as text directly in the HTML element.
 #[tactic(auto, unfolding(crate::specs::Paths::blank_parents))]
 pub fn is_blank_parent(name: &str) -> bool
     ensures { result ≡ is_among name.now blank_parents }
@@ -70,7 +70,7 @@ pub fn is_blank_parent(name: &str) -> bool
     )
 }
 
-/// Whether a text of only whitespace isn't seen directly in the HTML element.
+/// Whether a text of only whitespace directly in the HTML element isn't rendered.
 #[tactic(auto, unfolding(crate::specs::Tables::space_parents))]
 pub fn is_space_parent(name: &str) -> bool
     ensures { result ≡ is_among name.now tables.space_parents }
@@ -84,14 +84,14 @@ pub fn is_space_parent(name: &str) -> bool
     )
 }
 
-/// Whether the attribute says nothing where its value is only whitespace.
+/// Whether the attribute means nothing if its value is only whitespace.
 pub fn says_nothing_blank(attribute: &str) -> bool
     ensures { result ≡ is_among attribute.now attributes.nothing_blank }
 {
     is_one_of(attribute, &["class", "id", "style"])
 }
 
-/// Whether the attribute of the HTML element says what holds without it.
+/// Whether the attribute of the HTML element has its default value.
 #[tactic(auto, unfolding(crate::specs::Attributes::is_redundant, crate::specs::Attributes::defaults, hm_base::specs::Bytes::lower))]
 pub fn is_redundant(element: &str, name: &str, value: &str) -> bool
     ensures { result ≡ attributes.is_redundant element.now (record { name = name.now; value = value.now }) }
@@ -104,7 +104,7 @@ pub fn is_redundant(element: &str, name: &str, value: &str) -> bool
         || is_default(element, name, value, "style", "type", "text/css")
 }
 
-/// Whether this is that attribute of that element, with that value in any ASCII case.
+/// Whether this is the attribute `called` of the element `of`, with the value `default` in any ASCII case.
 #[tactic(auto, unfolding(crate::specs::Attributes::is_default), using(crate::proofs::Defaults::same_but_case))]
 fn is_default(element: &str, name: &str, value: &str, of: &str, called: &str, default: &str) -> bool
     requires { map lower default.now ≡ default.now }
@@ -113,7 +113,7 @@ fn is_default(element: &str, name: &str, value: &str, of: &str, called: &str, de
     same_name(element, of) && same_name(name, called) && is_but_for_case(value, default)
 }
 
-/// Whether a value is that word apart from the case of its ASCII letters.
+/// Whether a value is this word in any ASCII case.
 fn is_but_for_case(value: &str, word: &str) -> bool
     ensures { result ≡ str_eq_ignore_ascii_case value.now word.now }
 {

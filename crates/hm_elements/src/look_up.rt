@@ -1,24 +1,24 @@
-//! Look-ups in tables of names.
+//! Look-ups in lists of names and in tables of pairs.
 ghost use Rattle.std.specs.Prelude.{◌≡◌, bytes_eq, length};
 ghost use Rattle.hm_elements.specs.Names as names;
 ghost use Rattle.hm_elements.specs.Names.{is_among};
 ghost use Rattle.hm_elements.specs.Texts.{texts, joined_texts, rows_of, names_of};
 
-/// A row of a table of pairs: each of `heads` with each of the names that `names` lists.
+/// A row of a table of pairs: each of `heads` with each of the names in the lists `names`.
 pub(crate) struct PairRow<'t> {
     pub heads: &'t [&'t str],
     pub names: &'t [&'t [&'t str]],
 }
 
-/// Whether the names are the same. Most names that are compared differ in length or in an early byte,
-/// which costs a few instructions here; `==` of two texts is a call for each pair.
+/// Whether two names are the same. Most names that are compared differ in length or in an early byte, which costs a few
+/// instructions here. `==` of two texts is a call for each pair.
 pub fn same_name(a: &str, b: &str) -> bool
     ensures { result ≡ bytes_eq a.now b.now }
 {
     a.len() == b.len() && are_same(a.as_bytes(), b.as_bytes())
 }
 
-/// Whether the bytes are the same, of two texts of one length.
+/// Whether the bytes of two texts of the same length are the same.
 fn are_same(a: &[u8], b: &[u8]) -> bool
     requires { length a.now ≡ length b.now }
     ensures { result ≡ bytes_eq a.now b.now }
@@ -55,7 +55,7 @@ pub(crate) fn is_in_one_of(name: &str, lists: &[&[&str]]) -> bool
     false
 }
 
-/// The lists of names of the first row with this head.
+/// The lists of names in the first row with this head.
 pub(crate) fn find<'t>(rows: &'t [PairRow<'t>], head: &str) -> Option<&'t [&'t [&'t str]]>
     ensures { names_of result ≡ names.find head.now (rows_of rows.now) }
 {
@@ -67,7 +67,7 @@ pub(crate) fn find<'t>(rows: &'t [PairRow<'t>], head: &str) -> Option<&'t [&'t [
     None
 }
 
-/// Whether the pair stands in the table.
+/// Whether the table has this pair.
 pub(crate) fn is_pair(rows: &[PairRow<'_>], head: &str, name: &str) -> bool
     ensures { result ≡ names.is_pair (rows_of rows.now) head.now name.now }
 {

@@ -1,4 +1,4 @@
-//! Which element may stand in which, and which closes before which tag.
+//! Which element may be in which, and which tags close which elements.
 ghost use Rattle.std.specs.Prelude.{◌≡◌, false, bytes_eq};
 ghost use Rattle.hm_elements.specs.Names as names;
 ghost use Rattle.hm_elements.specs.Names.{p};
@@ -17,7 +17,7 @@ const PARTS: [&str; 9] = [
     "caption", "col", "colgroup", "thead", "tbody", "tfoot", "tr", "td", "th",
 ];
 
-/// What an open element yields to, except for `colgroup` and `p`.
+/// The start tags that close an open element, except for `colgroup` and `p`.
 const YIELDS: [PairRow<'static>; 8] = [
     PairRow {
         heads: &["li"],
@@ -55,7 +55,7 @@ const YIELDS: [PairRow<'static>; 8] = [
     },
 ];
 
-/// Whether the open element `current` closes before the start tag of an HTML element `next` (#optional-tags,
+/// Whether the start tag of an HTML element `next` closes the open element `current` (#optional-tags,
 /// #closing-elements-that-have-implied-end-tags, #parsing-main-inbody and following).
 #[tactic(auto, using(crate::proofs::NestingFacts::never_yields), unfolding(crate::specs::Nesting::is_closed_by_start))]
 pub fn is_closed_by_start(current: Named<'_>, next: Named<'_>) -> bool
@@ -72,6 +72,7 @@ pub fn is_closed_by_start(current: Named<'_>, next: Named<'_>) -> bool
     }
 }
 
+/// As `is_closed_by_start`, for an element in the table.
 #[tactic(auto, unfolding(crate::specs::Nesting::yield_rows, crate::specs::Tables::parts, crate::specs::Names::is_among))]
 fn yields_by_rows(current: &str, next: &str) -> bool
     requires { bytes_eq p current.now ≡ false }
@@ -80,7 +81,7 @@ fn yields_by_rows(current: &str, next: &str) -> bool
     is_pair(&YIELDS, current, next)
 }
 
-/// What end tags an open element ends with, except for `p`.
+/// The end tags of other names that close an open element, except for `p`.
 const ENDS: [PairRow<'static>; 8] = [
     PairRow {
         heads: &["li"],
@@ -116,7 +117,7 @@ const ENDS: [PairRow<'static>; 8] = [
     },
 ];
 
-/// Whether the open element `child` ends with the end tag `ending` (#optional-tags,
+/// Whether the end tag `ending`, of another name, closes the open element `child` (#optional-tags,
 /// #closing-elements-that-have-implied-end-tags).
 #[tactic(auto, using(crate::proofs::NestingFacts::never_ends))]
 pub fn ends_with(child: Named<'_>, ending: &str) -> bool
@@ -131,6 +132,7 @@ pub fn ends_with(child: Named<'_>, ending: &str) -> bool
     }
 }
 
+/// As `ends_with`, for an element in the table.
 #[tactic(auto, unfolding(crate::specs::Nesting::ends_with, crate::specs::Nesting::end_rows, crate::specs::Tables::sections, crate::specs::Names::is_among))]
 fn ends_by_rows(child: &str, ending: &str) -> bool
     requires { bytes_eq p child.now ≡ false }
@@ -139,7 +141,7 @@ fn ends_by_rows(child: &str, ending: &str) -> bool
     is_pair(&ENDS, child, ending)
 }
 
-/// Parents with children of their own.
+/// The elements that only allow children of certain names, with these names.
 const CHILDREN: [PairRow<'static>; 8] = [
     PairRow {
         heads: &["head"],
@@ -183,7 +185,7 @@ const CHILDREN: [PairRow<'static>; 8] = [
     },
 ];
 
-/// Children with parents of their own.
+/// The elements that are only allowed in parents of certain names, with these names.
 const PARENTS: [PairRow<'static>; 5] = [
     PairRow {
         heads: &["li"],
@@ -207,7 +209,7 @@ const PARENTS: [PairRow<'static>; 5] = [
     },
 ];
 
-/// Whether an HTML element `name` may stand under the element `parent`, which itself stands under `grandparent` or at the top
+/// Whether an HTML element `name` is allowed in `parent`, which itself is in `grandparent` or at the top
 /// (#element-restrictions, #parsing-main-inselect).
 #[inline(always)]
 #[tactic(auto, unfolding(crate::specs::Nesting::may_stand, crate::specs::Nesting::noscript_children))]
@@ -223,7 +225,7 @@ pub fn may_stand(name: Named<'_>, parent: Named<'_>, grandparent: Option<&str>) 
     }
 }
 
-/// The names of the children that the element takes, where it takes only those.
+/// The names of the children that the element allows. None if it allows any.
 #[inline(always)]
 fn own_children(parent: Named<'_>) -> Option<&'static [&'static [&'static str]]>
     ensures { names_of result ≡ names.find parent.entry.name.now nesting.children }
@@ -235,6 +237,7 @@ fn own_children(parent: Named<'_>) -> Option<&'static [&'static [&'static str]]>
     }
 }
 
+/// As `own_children`, for an element in the table.
 #[tactic(auto, unfolding(crate::specs::Nesting::children, crate::specs::Tables::rcdata_names, crate::specs::Tables::raw_names, crate::specs::Tables::voids, crate::specs::Names::is_among))]
 fn children_by_rows(parent: &str) -> Option<&'static [&'static [&'static str]]>
     ensures { names_of result ≡ names.find parent.now nesting.children }
@@ -242,7 +245,7 @@ fn children_by_rows(parent: &str) -> Option<&'static [&'static [&'static str]]>
     find(&CHILDREN, parent)
 }
 
-/// The names of the parents that the element stands in, where it stands only in those.
+/// The names of the parents in which the element is allowed. None if the table has no row for it.
 #[inline(always)]
 fn own_parents(child: Named<'_>) -> Option<&'static [&'static [&'static str]]>
     ensures { names_of result ≡ names.find child.entry.name.now nesting.own_parents }
@@ -254,6 +257,7 @@ fn own_parents(child: Named<'_>) -> Option<&'static [&'static [&'static str]]>
     }
 }
 
+/// As `own_parents`, for an element in the table.
 #[tactic(auto, unfolding(crate::specs::Nesting::own_parents, crate::specs::Names::is_among))]
 fn parents_by_rows(child: &str) -> Option<&'static [&'static [&'static str]]>
     ensures { names_of result ≡ names.find child.now nesting.own_parents }
@@ -261,7 +265,7 @@ fn parents_by_rows(child: &str) -> Option<&'static [&'static [&'static str]]>
     find(&PARENTS, child)
 }
 
-/// The rule for a parent without children of its own.
+/// As `may_stand`, for a parent that allows children of any name.
 #[inline(always)]
 fn stands_by_parents(name: Named<'_>, parent: &str, grandparent: Option<&str>) -> bool
     ensures { result ≡ nesting.stands_by_parents (names.find name.entry.name.now nesting.own_parents) name.entry.name.now parent.now (text_of grandparent.entry) }
@@ -277,6 +281,7 @@ fn stands_by_parents(name: Named<'_>, parent: &str, grandparent: Option<&str>) -
     }
 }
 
+/// Whether there is a name and it is `wanted`.
 fn is_named(name: Option<&str>, wanted: &str) -> bool
     ensures { result ≡ is_name wanted.now (text_of name.entry) }
 {

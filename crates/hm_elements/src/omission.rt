@@ -8,8 +8,8 @@ use crate::kind::{Kind, kind_of};
 use crate::lists::{is_cell, is_section};
 use crate::look_up::{is_one_of, same_name};
 
-/// Whether the end tag of a paragraph may be left out before the start tag of the HTML element: blocks are what closes a
-/// paragraph, except for the items of lists.
+/// Whether the end tag of a paragraph may be left out before the start tag of the HTML element: one that closes a
+/// paragraph and isn't an item of a list.
 fn end_tag_of_p_optional_before(next: &str) -> bool
     ensures { result ≡ is_among next.now tables.blocks }
 {
@@ -49,7 +49,7 @@ pub fn end_tag_optional_before(name: &str, next: &str) -> bool
     }
 }
 
-/// Whether the end tag of the HTML element may be left out at the end of this parent.
+/// Whether the end tag of the HTML element may be left out at the end of this parent, if nothing else follows in it.
 #[tactic(auto, unfolding(crate::specs::Omission::end_tag_optional_in, crate::specs::Omission::up_names, crate::specs::Names::is_among))]
 pub fn end_tag_optional_in(name: &str, parent: &str) -> bool
     ensures { result ≡ omission.end_tag_optional_in name.now parent.now }
@@ -69,14 +69,14 @@ pub fn end_tag_optional_in(name: &str, parent: &str) -> bool
     }
 }
 
-/// Whether the end tag of a paragraph may be left out at the end of this parent.
+/// Whether the end tag of a paragraph may be left out at the end of this parent, if nothing else follows in it.
 fn is_parent_of_loose_p(parent: &str) -> bool
     ensures { result ≡ is_among parent.now omission.up_of_p }
 {
     same_name("body", parent) || ends_loose_p(kind_of(parent))
 }
 
-/// Whether a paragraph ends with the end tags of such elements, and any child may stand in them.
+/// Whether the end tag of such an element closes a paragraph, and any child is allowed in it.
 fn ends_loose_p(parent: Kind) -> bool
     ensures { result ≡ parent.p_ends && not parent.has_children }
 {
@@ -97,7 +97,8 @@ pub fn start_tag_optional_before(name: &str, child: &str) -> bool
     }
 }
 
-/// Whether the start tag of the HTML element isn't left out after an end of the HTML element `before` whose tag was left out.
+/// Whether the start tag of the HTML element must be written directly after an omitted end tag of the HTML element
+/// `before`.
 #[tactic(auto, unfolding(crate::specs::Omission::start_tag_required_after))]
 pub fn start_tag_required_after(before: &str, name: &str) -> bool
     ensures { result ≡ omission.start_tag_required_after before.now name.now }
@@ -106,7 +107,7 @@ pub fn start_tag_required_after(before: &str, name: &str) -> bool
         || (same_name(name, "colgroup") && same_name(before, "colgroup"))
 }
 
-/// Whether the HTML element is taken into `head` where no start tag of `body` stands before it.
+/// Whether the HTML element goes into `head` if no start tag of `body` is before it.
 pub fn stays_in_head(name: &str) -> bool
     ensures { result ≡ is_among name.now omission.head_takers }
 {

@@ -1,7 +1,7 @@
 //! The children of the prefixes.
 // Written by tables/html_names.py from tables/entities.json. Do not edit.
 
-/// How many prefixes have one byte more.
+/// How many children each prefix has: prefixes of one byte more.
 #[rattlefmt::skip]
 pub(crate) static COUNTS: [u8; 9854] = [
     52, 16, 8, 14, 11, 16, 5, 12, 8, 14, 5, 7, 11, 8, 9, 14, 9, 4, 12, 13, 11, 14, 9, 5, 4, 9, 8, 16, 16, 15, 19, 18, 12, 17, 10,

@@ -1,7 +1,7 @@
-//! The names in the order of their first code points; those with the same one stand in byte order.
+//! The names in the order of their first code points; those with the same one are in byte order.
 // Written by tables/html_names.py from tables/entities.json. Do not edit.
 
-/// The first code points.
+/// The first code point of each name.
 #[rattlefmt::skip]
 pub(crate) static POINTS: [char; 2231] = [
     '\u{9}', '\u{a}', '\u{21}', '\u{22}', '\u{22}', '\u{22}', '\u{22}', '\u{23}', '\u{24}', '\u{25}', '\u{26}', '\u{26}',
@@ -224,7 +224,7 @@ pub(crate) static POINTS: [char; 2231] = [
     '\u{1d569}', '\u{1d56a}', '\u{1d56b}',
 ];
 
-/// The numbers of the names.
+/// The number of each name.
 #[rattlefmt::skip]
 pub(crate) static NUMBERS: [u16; 2231] = [
     529, 325, 1047, 434, 435, 1753, 1754, 1592, 956, 1683, 2, 3, 656, 657, 688, 1371, 1841, 694, 1427, 1699, 868, 1684, 1922, 865,

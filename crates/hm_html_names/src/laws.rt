@@ -4,7 +4,7 @@ ghost use Rattle.hm_refs.specs.Json.{checked};
 ghost use Rattle.hm_refs.specs.Tables.{IsTable};
 ghost use Rattle.hm_html_names.specs.HtmlNames.{html_entries};
 
-/// The names are a table, as those of every table that is read are.
+/// The names are a table, as the names of every table that is read are.
 pub fn html_is_table()
     ensures { IsTable html_entries }
 {}

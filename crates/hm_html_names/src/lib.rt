@@ -1,4 +1,4 @@
-//! The table of the HTML Standard's named character references, which stands in the program with its trie.
+//! The table of the HTML Standard's named character references: constants of the program, with their trie.
 #![tactic(auto)]
 
 ghost use Rattle.std.specs.Prelude.{◌≡◌, IfOk};
@@ -26,14 +26,14 @@ use hm_base::OutOfMemory;
 use hm_refs::{ReadyIndex, ReadyNames, ReadyNodes, Table};
 use std::alloc::Global;
 
-/// The table of the standard's 2,231 names (#named-character-references). No file is read.
+/// The table of the standard's 2,231 names (#named-character-references). It reads no file.
 pub fn html_table(alloc: Global) -> Result<Table, OutOfMemory>
     ensures { IfOk result (λ table. table.entries ≡ html_entries) }
 {
     Table::ready(alloc, ready_names(), ready_nodes(), ready_index())
 }
 
-/// The names as constants.
+/// The names.
 fn ready_names() -> ReadyNames
     ensures text { result.text.now ≡ TEXT.now }
     ensures lengths { result.lengths.now ≡ LENGTHS }
@@ -48,7 +48,7 @@ fn ready_names() -> ReadyNames
     }
 }
 
-/// Their trie as constants.
+/// The trie of the names.
 fn ready_nodes() -> ReadyNodes
     ensures names { result.names.now ≡ NAMES }
     ensures depths { result.depths.now ≡ DEPTHS }
@@ -65,7 +65,7 @@ fn ready_nodes() -> ReadyNodes
     }
 }
 
-/// Their index as constants.
+/// The names in the order of their first code points.
 fn ready_index() -> ReadyIndex
     ensures points { result.points.now ≡ POINTS }
     ensures names { result.names.now ≡ NUMBERS }

@@ -1,7 +1,7 @@
 //! The places of the names in their trie.
 // Written by tables/html_names.py from tables/entities.json. Do not edit.
 
-/// The prefix that each name is.
+/// The number of the prefix that each name is.
 #[rattlefmt::skip]
 pub(crate) static PLACES: [u16; 2231] = [
     3345, 4838, 684, 1892, 4839, 6086, 6087, 3348, 4841, 1896, 1897, 4842, 6088, 4843, 4844, 1901, 4845, 3353, 9018, 3355, 4847,

@@ -222,7 +222,7 @@ pub(crate) static FIRSTS: [char; 2231] = [
     '\u{21dd}', '\u{1d56b}', '\u{1d4cf}', '\u{200d}', '\u{200c}',
 ];
 
-/// The second one, or U+0000.
+/// The second code point of each name, or U+0000.
 #[rattlefmt::skip]
 pub(crate) static SECONDS: [char; 2231] = [
     '\0', '\0', '\0', '\0', '\0', '\0', '\0', '\0', '\0', '\0', '\0', '\0', '\0', '\0', '\0', '\0', '\0', '\0', '\0', '\0', '\0',

@@ -1,7 +1,7 @@
 //! The trie of the names: their prefixes, shorter ones first and in byte order.
 // Written by tables/html_names.py from tables/entities.json. Do not edit.
 
-/// The number of the first name that begins with the prefix.
+/// The number of the first name that starts with the prefix.
 #[rattlefmt::skip]
 pub(crate) static NAMES: [u16; 9854] = [
     0, 0, 27, 39, 75, 129, 159, 167, 189, 201, 230, 237, 245, 305, 314, 386, 415, 434, 439, 484, 524, 547, 587, 604, 609, 613,

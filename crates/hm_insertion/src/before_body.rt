@@ -21,7 +21,7 @@ use hm_tree::{Attrs, Maker};
 use std::alloc::Global;
 
 impl Parts {
-    /// Takes the start tag of `html`, `head` or `body`, which opens once (#the-before-html-insertion-mode,
+    /// Takes the start tag of `html`, `head` or `body`, each of which opens only once (#the-before-html-insertion-mode,
     /// #the-before-head-insertion-mode, #the-after-head-insertion-mode).
     pub(crate) fn open_root(
         &mut self,
@@ -80,7 +80,7 @@ impl Parts {
         }
     }
 
-    /// Takes the start tag of `body` (#the-after-head-insertion-mode). Where `head` is missing it is made, and it closes.
+    /// Takes the start tag of `body`, which opens only once (#the-after-head-insertion-mode).
     fn open_body(&mut self, alloc: Global, attrs: &Attrs) -> Result<(), BuildFault>
         requires kept { IsKept self.old }
         requires not_text { is_in_text (open_path self.old.insertion_mode self.old.path) ≡ false }
@@ -93,7 +93,7 @@ impl Parts {
         self.open_body_here(alloc, attrs)
     }
 
-    /// Opens `body` where it is missing and nothing is open in `head` (#the-after-head-insertion-mode).
+    /// Opens `body` (#the-after-head-insertion-mode). What is missing before it is made, and `head` is closed.
     fn open_body_here(&mut self, alloc: Global, attrs: &Attrs) -> Result<(), BuildFault>
         requires kept { IsKept self.old }
         requires unbegun { IsUnbegun self.old.insertion_mode }
@@ -106,7 +106,7 @@ impl Parts {
         Ok(())
     }
 
-    /// Takes the start tag of any other element, where the body hasn't begun (#the-before-html-insertion-mode to
+    /// Takes the start tag of any other element before the body is open (#the-before-html-insertion-mode to
     /// #the-after-head-insertion-mode).
     pub(crate) fn start_before_body(
         &mut self,
@@ -155,8 +155,8 @@ impl Parts {
         self.start_in_body(alloc, name, attrs, slash)
     }
 
-    /// Takes a start tag where `head` can take a child. One that may stand in `head` opens in it; before any other
-    /// `head` closes and the body begins (#parsing-main-inhead).
+    /// Takes a start tag while `head` is open or still to be made, and nothing is open in it. An element of `head`
+    /// opens in it. Any other closes `head` and opens the body (#parsing-main-inhead).
     fn start_in_head(
         &mut self,
         alloc: Global,
@@ -179,7 +179,7 @@ impl Parts {
         }
     }
 
-    /// Makes `html` and `head` where they are missing (#the-before-html-insertion-mode, #the-before-head-insertion-mode).
+    /// Makes `html` and `head`, if they are missing (#the-before-html-insertion-mode, #the-before-head-insertion-mode).
     fn reach_head(&mut self, alloc: Global) -> Result<(), OutOfMemory>
         requires kept { IsKept self.old }
         requires takes { TakesChildren self.old.insertion_mode }
@@ -194,7 +194,7 @@ impl Parts {
         Ok(())
     }
 
-    /// Starts a child of `head` (#parsing-main-inhead). A void one closes at once.
+    /// Starts a child of `head` (#parsing-main-inhead). A void one is ended too.
     fn start_child(&mut self, name: &str, attrs: &Attrs) -> Result<(), OutOfMemory>
         requires kept { IsKept self.old }
         requires all { self.old.drops_line_feed ≡ false }
@@ -244,7 +244,7 @@ impl Parts {
         Ok(())
     }
 
-    /// Starts an element that holds a text, in `head` or in `noscript` in it (#parsing-main-inhead,
+    /// Starts an element that holds one text, in `head` or in `noscript` in `head` (#parsing-main-inhead,
     /// #parsing-main-inheadnoscript).
     fn start_text(
         &mut self,
@@ -266,7 +266,8 @@ impl Parts {
         Ok(())
     }
 
-    /// Starts and ends a void element, in `head` or in `noscript` in it (#parsing-main-inhead, #parsing-main-inheadnoscript).
+    /// Starts and ends a void element, in `head` or in `noscript` in `head` (#parsing-main-inhead,
+    /// #parsing-main-inheadnoscript).
     fn start_void(&mut self, noscript: bool, name: &str, attrs: &Attrs) -> Result<(), OutOfMemory>
         requires kept { IsKept self.old }
         requires all { self.old.drops_line_feed ≡ false }
@@ -280,7 +281,8 @@ impl Parts {
     }
 }
 
-/// Whether `body` can't open any more, or not before the end of `noscript` in `head`.
+/// Whether a start tag of `body` is refused: `body` is or was open, `noscript` is open in `head`, or no doctype was
+/// read.
 fn has_begun(insertion_mode: BuilderMode) -> bool
     ensures { result ≡ before_body.has_begun insertion_mode }
 {
@@ -294,7 +296,7 @@ fn has_begun(insertion_mode: BuilderMode) -> bool
     }
 }
 
-/// Makes `html` where it is missing (#the-before-html-insertion-mode).
+/// Makes `html`, if it is missing (#the-before-html-insertion-mode).
 fn open_missing_html(
     alloc: Global,
     maker: &mut Maker,
@@ -309,7 +311,7 @@ fn open_missing_html(
     }
 }
 
-/// Makes `html` and `head` where they are missing (#the-before-html-insertion-mode, #the-before-head-insertion-mode).
+/// Makes `html` and `head`, if they are missing (#the-before-html-insertion-mode, #the-before-head-insertion-mode).
 fn open_missing_head(
     alloc: Global,
     maker: &mut Maker,

@@ -1,4 +1,4 @@
-//! A tree that is being built.
+//! Builds a tree from tokens.
 ghost use Rattle.std.specs.Prelude.{◌≡◌, ◌^◌, ◌<◌, false, length, IfOk};
 ghost use Rattle.hm_construction_laws.specs.Closing as closing;
 ghost use Rattle.hm_construction_laws.specs.Steps.{step, step_over};
@@ -16,12 +16,12 @@ use hm_tree::{Attrs, Tree};
 use std::alloc::Global;
 use std::marker::Model;
 
-/// A tree that is being built, token by token (HTML Standard, #tree-construction). Contracts see the state of tree
-/// construction and the events so far.
+/// Builds a tree, token by token (HTML Standard, #tree-construction). Contracts see the state of tree construction and
+/// the events so far.
 #[derive(Drop)]
 pub struct TreeBuilder {
     parts: Parts,
-    /// A token was refused, or memory was: no token is taken any more.
+    /// A token was refused, or an allocation failed. No token is taken any more.
     is_broken: bool,
 }
 
@@ -38,7 +38,7 @@ impl Model for TreeBuilder {
 }
 
 impl TreeBuilder {
-    /// Nothing is built yet.
+    /// No token was taken yet.
     pub fn new(alloc: Global) -> Result<TreeBuilder, OutOfMemory>
         ensures { IfOk result (λ builder. builder ≡ first_building) }
     {
@@ -63,8 +63,7 @@ impl TreeBuilder {
         is_in_svg(self.parts.insertion_mode, &self.parts.path)
     }
 
-    /// Whether the innermost open element is one of HTML that holds one text and nothing else. No name
-    /// is looked up.
+    /// Whether the innermost open element is one of HTML that holds one text and nothing else. It looks up no name.
     pub fn is_in_text(&self) -> bool
         ensures { result ≡ paths.is_in_text self.now.state.path }
     {
@@ -78,14 +77,14 @@ impl TreeBuilder {
         depth(self.parts.insertion_mode, &self.parts.path)
     }
 
-    /// The name of the innermost open element, and no bytes where none is open.
+    /// The name of the innermost open element, or no bytes if none is open.
     pub fn current(&self) -> &str
         ensures { result.now ≡ paths.current self.now.state.path }
     {
         current(self.parts.insertion_mode, &self.parts.path)
     }
 
-    /// Whether body is closed, so that only whitespace, comments and `</html>` may come (#parsing-main-afterbody).
+    /// Whether `body` is closed, so that only whitespace, comments and `</html>` may follow (#parsing-main-afterbody).
     pub fn is_after_body(&self) -> bool
         ensures { result ≡ closing.is_after_body self.now.state.insertion_mode }
     {
@@ -95,8 +94,8 @@ impl TreeBuilder {
         )
     }
 
-    /// Takes a doctype (#the-initial-insertion-mode). After a fault no token is taken any more: each call returns that
-    /// memory is refused.
+    /// Takes a doctype (#the-initial-insertion-mode). After any fault, each later call of any method fails with
+    /// `OutOfMemory`.
     pub fn doctype(&mut self, legacy: bool) -> Result<(), BuildFault>
         requires { Fits (step self.old.state (tokens.doctype legacy)) self.old.walk }
         ensures { Answers (step self.old.state (tokens.doctype legacy)) result self.old self.new }
@@ -110,7 +109,7 @@ impl TreeBuilder {
         Ok(())
     }
 
-    /// Takes a start tag (#parsing-main-inhtml). None is read inside an element that holds a text.
+    /// Takes a start tag (#parsing-main-inhtml). None may come inside an element that holds one text.
     #[inline(always)]
     pub fn start_tag(
         &mut self,
@@ -147,7 +146,7 @@ impl TreeBuilder {
         Ok(())
     }
 
-    /// Takes a text as it is written, of fewer than 2 ^ 32 bytes (#parsing-main-inhtml).
+    /// Takes a text of fewer than 2^32 bytes, in which no character reference is read (#parsing-main-inhtml).
     #[tactic(auto, unfolding(hm_construction_laws::specs::Steps::step))]
     pub fn text(&mut self, alloc: Global, text: &str) -> Result<(), BuildFault>
         requires short { length text.now < 2 ^ 32 }
@@ -177,7 +176,8 @@ impl TreeBuilder {
         Ok(())
     }
 
-    /// Takes what a character reference stands for (#parsing-main-inhtml). It is refused at its start.
+    /// Takes the code points of a character reference (#parsing-main-inhtml). A refusal is at the start of the
+    /// reference.
     pub fn points(&mut self, alloc: Global, points: Points) -> Result<(), BuildFault>
         requires { Fits (step self.old.state (tokens.points (points_of points))) self.old.walk }
         ensures { Answers (step self.old.state (tokens.points (points_of points))) result self.old self.new }
@@ -191,7 +191,8 @@ impl TreeBuilder {
         Ok(())
     }
 
-    /// The tree, at the end of the page: what is missing is made, and all closes (#parsing-main-inhtml, #the-end).
+    /// Ends the page: makes what is missing, closes all elements, and returns the tree (#parsing-main-inhtml,
+    /// #the-end).
     pub fn finish(self, alloc: Global) -> Result<Tree, BuildFault>
         requires { Fits (step_over self.state) self.walk }
         ensures { Builds (step_over self.state) result self.walk }

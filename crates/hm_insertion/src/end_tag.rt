@@ -59,8 +59,8 @@ impl Parts {
         }
     }
 
-    /// Where something is open in `head`, only its own end tag ends it (#parsing-main-inheadnoscript,
-    /// #parsing-main-incdata).
+    /// Takes an end tag while `noscript` or a text is open in `head`. Only its own end tag closes it
+    /// (#parsing-main-inheadnoscript, #parsing-main-incdata).
     fn end_inside_head(
         &mut self,
         noscript: bool,
@@ -87,7 +87,7 @@ impl Parts {
         Err(BuildFault::from(Rule::StrayEnd))
     }
 
-    /// Takes an end tag before the body (#the-before-html-insertion-mode to #the-after-head-insertion-mode).
+    /// Takes an end tag before the body is open (#the-before-html-insertion-mode to #the-after-head-insertion-mode).
     fn end_unbegun(&mut self, alloc: Global, name: &str) -> Result<(), BuildFault>
         requires kept { IsKept self.old }
         requires unbegun { IsUnbegun self.old.insertion_mode }
@@ -117,7 +117,8 @@ impl Parts {
         Ok(())
     }
 
-    /// The body ends before anything of it (#parsing-main-inbody).
+    /// Makes what is missing up to `body`, and leaves the body at once: `insertion_mode` is the next mode
+    /// (#parsing-main-inbody).
     fn leave_unbegun(
         &mut self,
         alloc: Global,
@@ -134,7 +135,7 @@ impl Parts {
         Ok(())
     }
 
-    /// Takes an end tag where the innermost elements are those of a body (#parsing-main-inbody, #parsing-main-incdata).
+    /// Takes an end tag while the body is or was open (#parsing-main-inbody, #parsing-main-incdata).
     fn end_in_body(&mut self, name: &str) -> Result<(), BuildFault>
         requires kept { IsKept self.old }
         requires body { HasBodyPath self.old.insertion_mode }
@@ -151,7 +152,7 @@ impl Parts {
         }
     }
 
-    /// Takes an end tag after `body` (#parsing-main-afterbody).
+    /// Takes an end tag after the body (#parsing-main-afterbody).
     fn end_after_body(&mut self, name: &str) -> Result<(), BuildFault>
         requires kept { IsKept self.old }
         requires insertion_mode { self.old.insertion_mode ≡ BuilderMode.AfterBody }
@@ -189,7 +190,7 @@ impl Parts {
         self.end_named(name)
     }
 
-    /// The body ends where nothing but a `p` is open in it (#parsing-main-inbody).
+    /// Leaves the body, if nothing but a `p` is open in it: `insertion_mode` is the next mode (#parsing-main-inbody).
     fn leave_body(&mut self, insertion_mode: BuilderMode) -> Result<(), BuildFault>
         requires kept { IsKept self.old }
         requires here { self.old.insertion_mode ≡ BuilderMode.InBody }
@@ -204,7 +205,7 @@ impl Parts {
         }
     }
 
-    /// Ends an element of HTML, and those whose ends are implied (#parsing-main-inbody to #parsing-main-intd).
+    /// Ends an element of HTML, and first those whose ends are implied (#parsing-main-inbody to #parsing-main-intd).
     fn end_named(&mut self, name: &str) -> Result<(), BuildFault>
         requires kept { IsKept self.old }
         requires body { HasBodyPath self.old.insertion_mode }
@@ -217,7 +218,7 @@ impl Parts {
         Ok(())
     }
 
-    /// Ends the innermost element of a body, which is one of SVG or holds a text, if the tag has its name
+    /// Ends the innermost element of the body, which is one of SVG or holds one text, if the tag has its name
     /// (#parsing-main-inforeign, #parsing-main-incdata).
     fn end_inner(&mut self, name: &str) -> Result<(), BuildFault>
         requires kept { IsKept self.old }
@@ -226,7 +227,7 @@ impl Parts {
         requires room { Fits (end_current name.now (state_of self.old) self.old.path) self.old.maker }
         ensures { Takes (end_current name.now (state_of self.old) self.old.path) result self.old self.new }
     {
-        // The length of the path comes with its outermost elements, html and body.
+        // Asked only for its contract: the outermost elements are `html` and `body`.
         let _depth = self.path.len();
         if name == "body" {
             return Err(BuildFault::from(Rule::NotCurrent));
@@ -251,7 +252,7 @@ pub(crate) fn is_at_end(path: &Path) -> bool
     path.current() == "p" && !path.is_in_svg()
 }
 
-/// Whether an element of this name is open in or around head.
+/// Whether `html`, `head` or, if `noscript` is set, `noscript` has this name.
 fn is_open_in_head(noscript: bool, name: &str) -> bool
     ensures { result ≡ paths.is_open name.now (under_noscript noscript) }
 {
@@ -262,7 +263,7 @@ fn is_open_in_head(noscript: bool, name: &str) -> bool
     }
 }
 
-/// Whether `noscript` is open around the innermost element.
+/// Whether the innermost element holds a text and is in `noscript`.
 fn is_noscript_around(noscript: bool, text: Option<HeadText>) -> bool
     ensures { result ≡ inside.is_noscript_around noscript text }
 {

@@ -1,4 +1,4 @@
-//! Why a token isn't built into the tree.
+//! Why a token isn't taken into the tree.
 ghost use Rattle.std.specs.Prelude.{◌≡◌};
 ghost use Rattle.hm_insertion.specs.Building.{front_of, of_settle};
 ghost use Rattle.hm_insertion.specs.declared.fault.BuildFault.TheVariants as faults;
@@ -7,17 +7,17 @@ use hm_base::{OutOfMemory, Rule};
 use hm_open_elements::SettleFault;
 use std::alloc::{AllocError, AllocFailed};
 
-/// Why a token isn't built into the tree.
+/// Why a token isn't taken into the tree.
 #[derive(Clone, Copy, PartialEq, Eq)]
 pub enum BuildFault {
-    /// The page is refused by this rule, `offset` bytes of text after the place where the token begins.
+    /// This rule refuses the page, `offset` bytes of the text after the start of the token.
     Rule { rule: Rule, offset: u32 },
-    /// Memory was refused.
+    /// An allocation failed.
     OutOfMemory,
 }
 
 impl BuildFault {
-    /// The fault, at the start of its token.
+    /// The same fault at the start of its token.
     pub(crate) fn at_front(self) -> BuildFault
         ensures { result ≡ front_of self }
     {

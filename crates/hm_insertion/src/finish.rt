@@ -20,7 +20,8 @@ use hm_tree::{Maker, Tree};
 use std::alloc::Global;
 
 impl Parts {
-    /// All that is missing is made, and all closes (#the-before-html-insertion-mode to #parsing-main-inbody).
+    /// Makes all that is missing, closes all elements, and returns the tree (#the-before-html-insertion-mode to
+    /// #parsing-main-inbody).
     pub(crate) fn finish(self, alloc: Global) -> Result<Tree, BuildFault>
         requires kept { IsKept self }
         requires room { Fits (step_over (state_of self)) self.maker }
@@ -33,7 +34,7 @@ impl Parts {
         }
     }
 
-    /// Makes all that is missing, and closes all.
+    /// Makes all that is missing, and closes all elements.
     #[inline(always)]
     fn end_page(&mut self, alloc: Global) -> Result<(), BuildFault>
         requires kept { IsKept self.old }
@@ -48,7 +49,7 @@ impl Parts {
         if let Some(rule) = end_rule(self.insertion_mode, &self.path) {
             return Err(BuildFault::from(rule));
         }
-        // The length of the path comes with its outermost elements, html and body.
+        // Asked only for its contract: the outermost elements are `html` and `body`.
         let _depth = self.path.len();
         make_missing(alloc, &mut self.maker, self.insertion_mode)?;
         close_all(
@@ -60,7 +61,8 @@ impl Parts {
     }
 }
 
-/// Why a page doesn't end here (#the-initial-insertion-mode, #parsing-main-inheadnoscript, #parsing-main-inbody).
+/// The rule by which the page may not end here, if there is one (#the-initial-insertion-mode,
+/// #parsing-main-inheadnoscript, #parsing-main-inbody).
 fn end_rule(insertion_mode: BuilderMode, path: &Path) -> Option<Rule>
     ensures { result ≡ inside.end_rule insertion_mode path.now }
 {
@@ -75,7 +77,7 @@ fn end_rule(insertion_mode: BuilderMode, path: &Path) -> Option<Rule>
     }
 }
 
-/// Ends all that is open, with comments before the last end and after it.
+/// Ends all open elements. The comments `inner` come before the last end, the comments `last` after it.
 fn close_all(maker: &mut Maker, inner: &[OwnedText], last: &[OwnedText]) -> Result<(), OutOfMemory>
     requires open_still { 0 < length (path_after [] maker.old) }
     requires room { HasRoom (maker.old ++ closing (path_after [] maker.old) inner.now last.now) }

@@ -1,6 +1,6 @@
-//! Insertion modes, and what is open in head.
+//! Insertion modes, and what is open in `head`.
 
-/// The elements of head that hold a text.
+/// The elements of `head` that hold one text.
 #[derive(Clone, Copy, PartialEq, Eq)]
 pub(crate) enum HeadText {
     Title,
@@ -8,7 +8,7 @@ pub(crate) enum HeadText {
     Script,
 }
 
-/// The insertion modes (HTML Standard, #the-insertion-mode), as far as they are distinguished. Before the body the mode
+/// The insertion modes (HTML Standard, #the-insertion-mode), as far as they differ here. Before the body the mode also
 /// says which elements are open.
 #[derive(Clone, Copy, PartialEq, Eq)]
 pub(crate) enum BuilderMode {
@@ -18,7 +18,7 @@ pub(crate) enum BuilderMode {
     InHead {
         /// Whether `noscript` is open.
         noscript: bool,
-        /// The innermost element, where it holds a text.
+        /// The innermost element, if it holds one text.
         text: Option<HeadText>,
     },
     AfterHead,

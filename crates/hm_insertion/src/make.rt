@@ -1,4 +1,4 @@
-//! The elements that are made where their tags are left out (HTML Standard, #the-before-html-insertion-mode to
+//! Makes the elements whose tags are left out (HTML Standard, #the-before-html-insertion-mode to
 //! #the-after-head-insertion-mode).
 ghost use Rattle.std.specs.Prelude.{◌≡◌, [], ◌∷◌, ◌++◌, OnOk};
 ghost use Rattle.hm_base.specs.Walks.{path_after};
@@ -11,7 +11,8 @@ use hm_base::OutOfMemory;
 use hm_tree::{Attrs, Maker};
 use std::alloc::Global;
 
-/// Makes what is missing up to `body`, and closes `head` (#the-before-html-insertion-mode to #the-after-head-insertion-mode).
+/// Makes what is missing up to `body` in the mode `insertion_mode`, and closes `head` (#the-before-html-insertion-mode
+/// to #the-after-head-insertion-mode).
 #[inline(always)]
 pub(crate) fn make_missing(
     alloc: Global,
@@ -34,6 +35,7 @@ pub(crate) fn make_missing(
     }
 }
 
+/// Makes `html`, `head` and `body`. `head` is closed, the others stay open.
 fn make_html_up_to_body(alloc: Global, maker: &mut Maker) -> Result<(), OutOfMemory>
     requires room { HasRoom (maker.old ++ html_made) }
     requires open_there { path_after [] maker.old ≡ [] }
@@ -43,6 +45,7 @@ fn make_html_up_to_body(alloc: Global, maker: &mut Maker) -> Result<(), OutOfMem
     make_head_up_to_body(alloc, maker)
 }
 
+/// Makes `head` and `body`. `head` is closed, `body` stays open.
 fn make_head_up_to_body(alloc: Global, maker: &mut Maker) -> Result<(), OutOfMemory>
     requires room { HasRoom (maker.old ++ head_made) }
     requires open_there { path_after [] maker.old ≡ under_html }
@@ -52,6 +55,7 @@ fn make_head_up_to_body(alloc: Global, maker: &mut Maker) -> Result<(), OutOfMem
     close_head_and_make_body(alloc, maker)
 }
 
+/// Closes `head`, and makes `body`, which stays open.
 fn close_head_and_make_body(alloc: Global, maker: &mut Maker) -> Result<(), OutOfMemory>
     requires room { HasRoom (maker.old ++ head_closed) }
     requires open_there { path_after [] maker.old ≡ under_head }
@@ -61,6 +65,7 @@ fn close_head_and_make_body(alloc: Global, maker: &mut Maker) -> Result<(), OutO
     make_body(alloc, maker)
 }
 
+/// Makes `body`, which stays open.
 fn make_body(alloc: Global, maker: &mut Maker) -> Result<(), OutOfMemory>
     requires { HasRoom (maker.old ++ body_made) }
     ensures { OnOk result (maker.new ≡ maker.old ++ body_made) }
@@ -68,7 +73,7 @@ fn make_body(alloc: Global, maker: &mut Maker) -> Result<(), OutOfMemory>
     maker.start("body", false, Attrs::new(alloc))
 }
 
-/// Makes `head` where it is missing, and closes it (#the-before-html-insertion-mode to #parsing-main-inhead).
+/// Makes `head`, if it is missing, and closes it (#the-before-html-insertion-mode to #parsing-main-inhead).
 pub(crate) fn close_missing_head(
     alloc: Global,
     maker: &mut Maker,
@@ -86,6 +91,7 @@ pub(crate) fn close_missing_head(
     }
 }
 
+/// Makes `html` and `head`, and closes `head`.
 fn make_html_and_closed_head(alloc: Global, maker: &mut Maker) -> Result<(), OutOfMemory>
     requires room { HasRoom (maker.old ++ html_then_head) }
     requires open_there { path_after [] maker.old ≡ [] }
@@ -95,6 +101,7 @@ fn make_html_and_closed_head(alloc: Global, maker: &mut Maker) -> Result<(), Out
     make_closed_head(alloc, maker)
 }
 
+/// Makes `head`, and closes it.
 fn make_closed_head(alloc: Global, maker: &mut Maker) -> Result<(), OutOfMemory>
     requires room { HasRoom (maker.old ++ only_head) }
     requires open_there { path_after [] maker.old ≡ under_html }

@@ -1,4 +1,4 @@
-//! The ends and starts that a tag of the body makes.
+//! The ends and starts by a tag of the body.
 ghost use Rattle.std.specs.Prelude.{◌≡◌, ◌≤◌, [], ◌∷◌, ◌++◌, false, length, map, take, OnOk};
 ghost use Rattle.hm_base.specs.Walks as walks;
 ghost use Rattle.hm_base.specs.Walks.{path_after};
@@ -11,7 +11,7 @@ use hm_open_elements::Made;
 use hm_tree::{Attrs, Maker};
 use std::alloc::Global;
 
-/// Ends `count` elements.
+/// Ends the `count` innermost elements.
 #[inline(always)]
 pub(crate) fn end_elements(maker: &mut Maker, count: u32) -> Result<(), OutOfMemory>
     requires { count ≤ length (path_after [] maker.old) }
@@ -23,7 +23,7 @@ pub(crate) fn end_elements(maker: &mut Maker, count: u32) -> Result<(), OutOfMem
     Ok(())
 }
 
-/// Starts the elements that are made.
+/// Starts the elements in `made`.
 pub(crate) fn start_made(alloc: Global, maker: &mut Maker, made: Made) -> Result<(), OutOfMemory>
     requires { HasRoom (maker.old ++ starts (elements_of made)) }
     ensures { OnOk result (maker.new ≡ maker.old ++ starts (elements_of made)) }
@@ -40,6 +40,7 @@ pub(crate) fn start_made(alloc: Global, maker: &mut Maker, made: Made) -> Result
     }
 }
 
+/// Starts an element of HTML without attributes.
 fn start(alloc: Global, maker: &mut Maker, name: &str) -> Result<(), OutOfMemory>
     requires { HasRoom (maker.old ++ walks.start name.now false [] ∷ []) }
     ensures { OnOk result (maker.new ≡ maker.old ++ walks.start name.now false [] ∷ []) }

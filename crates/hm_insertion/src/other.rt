@@ -32,7 +32,7 @@ impl Parts {
         }
     }
 
-    /// Takes a comment (#parsing-main-inhtml). After `body` and after `html` it is kept for the end of the page
+    /// Takes a comment (#parsing-main-inhtml). After `</body>` and after `</html>` it is kept for the end of the page
     /// (#parsing-main-afterbody, #the-after-after-body-insertion-mode).
     pub(crate) fn comment(&mut self, alloc: Global, text: &str) -> Result<(), OutOfMemory>
         requires kept { IsKept self.old }
@@ -49,6 +49,7 @@ impl Parts {
     }
 }
 
+/// A copy of a text.
 fn kept_word(alloc: Global, text: &str) -> Result<OwnedText, OutOfMemory>
     ensures { IfOk result (λ word. word ≡ text.now) }
 {

@@ -1,4 +1,4 @@
-//! The parts of a builder, and which elements are open.
+//! The state of a builder, and which elements are open.
 ghost use Rattle.std.specs.Prelude.{◌≡◌, length};
 ghost use Rattle.hm_elements.specs.Paths as paths;
 ghost use Rattle.hm_insertion.specs.Inside.{inside_head, open_path, text_name};
@@ -9,16 +9,16 @@ use hm_elements::is_raw;
 use hm_open_elements::Path;
 use hm_tree::Maker;
 
-/// What a tree is built from. Between two tokens the open elements are those of the events so far.
+/// The state of a builder between two tokens. The open elements are those of the events so far.
 #[derive(Drop)]
 pub(crate) struct Parts {
     pub maker: Maker,
     pub insertion_mode: BuilderMode,
-    /// The open elements of the body; `html` and `body` before it begins.
+    /// The open elements of the body. Before the body is open: `html` and `body`.
     pub path: Path,
-    /// Whether a line feed that comes next is dropped.
+    /// Whether an LF is dropped if it comes next.
     pub drops_line_feed: bool,
-    /// The comments that stand after `body` and after `html`.
+    /// The comments after `</body>` and after `</html>`.
     pub comments_after_body: Vec<OwnedText>,
     pub comments_after_html: Vec<OwnedText>,
 }
@@ -36,7 +36,7 @@ impl HeadText {
     }
 }
 
-/// The name of the innermost element, and no bytes where none is open.
+/// The name of the innermost element, or no bytes if none is open.
 pub(crate) fn current(insertion_mode: BuilderMode, path: &Path) -> &str
     ensures { result.now ≡ paths.current (open_path insertion_mode path.now) }
 {
@@ -48,6 +48,7 @@ pub(crate) fn current(insertion_mode: BuilderMode, path: &Path) -> &str
     }
 }
 
+/// The name of the innermost element while `head` is open. `noscript` says whether it is open in `head`.
 pub(crate) fn current_in_head(noscript: bool, text: Option<HeadText>) -> &'static str
     ensures { result.now ≡ paths.current (inside_head noscript text) }
 {
@@ -69,6 +70,7 @@ pub(crate) fn depth(insertion_mode: BuilderMode, path: &Path) -> u32
     }
 }
 
+/// How many elements are open while `head` is open. `noscript` says whether it is open in `head`.
 fn depth_in_head(noscript: bool, text: Option<HeadText>) -> u32
     ensures { result ≡ length (inside_head noscript text) }
 {
@@ -89,7 +91,7 @@ pub(crate) fn is_in_svg(insertion_mode: BuilderMode, path: &Path) -> bool
     ) && path.is_in_svg()
 }
 
-/// Whether the innermost element is one of HTML that holds one text and nothing else. No name is looked up.
+/// Whether the innermost element is one of HTML that holds one text and nothing else. It looks up no name.
 pub(crate) fn is_in_text(insertion_mode: BuilderMode, path: &Path) -> bool
     ensures { result ≡ paths.is_in_text (open_path insertion_mode path.now) }
 {
@@ -103,7 +105,7 @@ pub(crate) fn is_in_text(insertion_mode: BuilderMode, path: &Path) -> bool
     }
 }
 
-/// Whether a text is raw here. Only the name of an element that holds one text is looked up.
+/// Whether a text here is raw. It looks up only the name of an element that holds one text.
 pub(crate) fn is_in_raw(insertion_mode: BuilderMode, path: &Path) -> bool
     ensures { result ≡ paths.is_in_raw (open_path insertion_mode path.now) }
 {

@@ -25,7 +25,7 @@ use hm_tree::{Attrs, Maker};
 use std::alloc::Global;
 
 impl Parts {
-    /// Takes a start tag (#parsing-main-inhtml). None is read inside an element that holds a text.
+    /// Takes a start tag (#parsing-main-inhtml). None may come inside an element that holds one text.
     #[inline(always)]
     pub(crate) fn start_tag(
         &mut self,
@@ -43,7 +43,7 @@ impl Parts {
         self.start_undropped(alloc, name, attrs, slash)
     }
 
-    /// Takes a start tag where no line feed is dropped any more (#parsing-main-inhtml).
+    /// Takes a start tag, after the flag that drops an LF is cleared (#parsing-main-inhtml).
     #[inline(always)]
     fn start_undropped(
         &mut self,
@@ -68,7 +68,7 @@ impl Parts {
         }
     }
 
-    /// Takes a start tag before the body (#the-before-html-insertion-mode to #the-after-head-insertion-mode).
+    /// Takes a start tag before the body is open (#the-before-html-insertion-mode to #the-after-head-insertion-mode).
     fn start_html(
         &mut self,
         alloc: Global,
@@ -92,7 +92,7 @@ impl Parts {
         self.start_before_body(alloc, name, attrs, slash)
     }
 
-    /// Opens an element in the body, which is made where it is missing (#parsing-main-inbody, #parsing-main-inforeign).
+    /// Opens an element in the body. A missing body is made first (#parsing-main-inbody, #parsing-main-inforeign).
     pub(crate) fn start_in_body(
         &mut self,
         alloc: Global,
@@ -115,8 +115,8 @@ impl Parts {
         self.close_at_once(tag, foreign, slash)
     }
 
-    /// Closes a void element, and one of SVG whose tag closes itself; else the element stays open. After `pre` and
-    /// `textarea` a line feed is dropped (#parsing-main-inbody, #parsing-main-inforeign).
+    /// Closes a void element, and one of SVG whose tag ends in `/>`. Any other stays open. After `pre` and `textarea`
+    /// the next LF is dropped (#parsing-main-inbody, #parsing-main-inforeign).
     fn close_at_once(
         &mut self,
         tag: Named<'_>,
@@ -150,7 +150,7 @@ fn opens_as_svg(path: &Path, name: &str) -> bool
     path.is_in_svg() || same_name(name, "svg")
 }
 
-/// Ends the elements that close, starts those that are made, and then the element of the tag (#parsing-main-inbody and
+/// Ends the elements that the tag closes, starts those that it makes, and then its own (#parsing-main-inbody and
 /// following, #creating-and-inserting-nodes).
 fn move_and_start(
     alloc: Global,

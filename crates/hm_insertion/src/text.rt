@@ -17,7 +17,7 @@ use hm_base::{OutOfMemory, Points, Rule, is_space};
 use hm_tree::Maker;
 use std::alloc::Global;
 
-/// The whitespace that the text begins with, and what follows it.
+/// The whitespace at the start of the text, and the rest.
 fn split_blank(text: &str) -> (&str, &str)
     ensures { IsCut text.now result.0.now result.1.now }
 {
@@ -45,7 +45,7 @@ fn text_rule(insertion_mode: BuilderMode, path: &hm_open_elements::Path) -> Opti
     }
 }
 
-/// Whether any text stands as it is: in the body, where a text isn't only whitespace (#parsing-main-inbody).
+/// Fast path: in body, where any text is allowed (#parsing-main-inbody).
 #[inline(always)]
 fn holds_any_text(insertion_mode: BuilderMode, path: &hm_open_elements::Path) -> bool
     ensures body { result ≡ true → insertion_mode ≡ BuilderMode.InBody }
@@ -57,7 +57,7 @@ fn holds_any_text(insertion_mode: BuilderMode, path: &hm_open_elements::Path) ->
     }
 }
 
-/// Puts whitespace where it stands, or drops it (#the-initial-insertion-mode to #the-before-head-insertion-mode).
+/// Appends whitespace, or drops it before `head` (#the-initial-insertion-mode to #the-before-head-insertion-mode).
 fn keep_blank(maker: &mut Maker, insertion_mode: BuilderMode, text: &str) -> Result<(), OutOfMemory>
     requires room { HasRoom (with_blank insertion_mode maker.old text.now) }
     requires same_raw { last_agrees maker.old false ≡ true }
@@ -74,8 +74,8 @@ fn keep_blank(maker: &mut Maker, insertion_mode: BuilderMode, text: &str) -> Res
 }
 
 impl Parts {
-    /// Takes a text of fewer than 2 ^ 32 bytes (#parsing-main-inhtml). A line feed directly after `pre` or `textarea`
-    /// is dropped (#parsing-main-inbody).
+    /// Takes a text of fewer than 2^32 bytes (#parsing-main-inhtml). An LF directly after the start tag of `pre` or
+    /// `textarea` is dropped (#parsing-main-inbody).
     pub(crate) fn text(&mut self, alloc: Global, text: &str) -> Result<(), BuildFault>
         requires kept { IsKept self.old }
         requires short { length text.now < 2 ^ 32 }
@@ -95,7 +95,7 @@ impl Parts {
         }
     }
 
-    /// Takes what a character reference stands for (#parsing-main-inhtml).
+    /// Takes the code points of a character reference (#parsing-main-inhtml).
     pub(crate) fn points(&mut self, alloc: Global, points: Points) -> Result<(), BuildFault>
         requires kept { IsKept self.old }
         requires room { Fits (step (state_of self.old) (tokens.points (points_of points))) self.old.maker }
@@ -108,7 +108,7 @@ impl Parts {
         }
     }
 
-    /// Takes a text of which no line feed is dropped, with `before` bytes of its token before it (#parsing-main-inhtml).
+    /// Takes a text from which no LF is dropped. `before` bytes of its token are before it (#parsing-main-inhtml).
     fn plain_text(&mut self, alloc: Global, text: &str, before: u32) -> Result<(), BuildFault>
         requires kept { IsKept self.old }
         requires all { self.old.drops_line_feed ≡ false }
@@ -138,8 +138,8 @@ impl Parts {
         Ok(())
     }
 
-    /// Takes whitespace and a text after it that isn't, where text may stand (#the-before-html-insertion-mode to
-    /// #parsing-main-inbody).
+    /// Takes whitespace, and a text after it that isn't whitespace. Both are allowed here
+    /// (#the-before-html-insertion-mode to #parsing-main-inbody).
     fn mixed_text(&mut self, alloc: Global, blank: &str, rest: &str) -> Result<(), OutOfMemory>
         requires kept { IsKept self.old }
         requires not_text { paths.is_in_text (open_path self.old.insertion_mode self.old.path) ≡ false }

@@ -24,7 +24,7 @@ pub(crate) fn have_zero(pairs: &Pairs<'_>) -> bool
     false
 }
 
-/// The attributes, unless they are more than may be written in a tag, or a name is repeated or can't be written.
+/// The attributes. None if there are more than a tag may have, or if a name is repeated or isn't allowed.
 pub(crate) fn attributes_of(alloc: Global, pairs: &Pairs<'_>) -> Result<Option<Attrs>, OutOfMemory>
     ensures { IfOk result (λ made. MatchOption made (are_in_form pairs.now ≡ false)
         (λ attrs. (attrs ≡ pairs.now) × (are_in_form pairs.now ≡ true))) }
@@ -37,7 +37,7 @@ pub(crate) fn attributes_of(alloc: Global, pairs: &Pairs<'_>) -> Result<Option<A
     Ok(kept(attrs, all))
 }
 
-/// The attributes, where all were put.
+/// The attributes, if all were added.
 #[inline(always)]
 fn kept(attrs: Attrs, all: bool) -> Option<Attrs>
     ensures { MatchOption result (all ≡ false) (λ same. (all ≡ true) × (same ≡ attrs) × (has_distinct_names attrs ≡ true)) }
@@ -45,12 +45,12 @@ fn kept(attrs: Attrs, all: bool) -> Option<Attrs>
     if !all {
         return None;
     }
-    // What is true of all attributes comes with their number.
+    // Asked only for its contract: what is true of all attributes.
     let _count = attrs.len();
     Some(attrs)
 }
 
-/// Puts all pairs where no attribute is yet, up to one whose name is repeated or can't be written.
+/// Adds all pairs to an empty list, up to one whose name is repeated or isn't allowed. Returns whether all were added.
 #[inline(always)]
 fn put_all(attrs: &mut Attrs, pairs: &Pairs<'_>) -> Result<bool, OutOfMemory>
     requires none { attrs.old ≡ [] }

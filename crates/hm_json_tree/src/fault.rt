@@ -1,30 +1,30 @@
-//! Why bytes are no tree.
+//! Why bytes aren't a tree.
 use hm_base::OutOfMemory;
 use std::alloc::AllocError;
 use thiserror::Error;
 
-/// The first fault of a tree's bytes, in the order of these cases. Events are counted from 0.
+/// The first fault of a tree's bytes, in the order of these cases. Events are numbered from 0.
 #[derive(Clone, Copy, Debug, PartialEq, Eq, Error)]
 pub enum JsonFault {
     /// More than 67,108,864 bytes.
     #[error("TooLong")]
     TooLong,
-    /// The bytes aren't JSON in UTF-8 that nests at most 127 deep.
+    /// The bytes aren't JSON in UTF-8, or nest more than 127 deep.
     #[error("NotJson")]
     NotJson,
     /// The value isn't an array.
     #[error("NotArray")]
     NotArray,
-    /// The first item that is no event, or an end where no element is open.
+    /// The first item that isn't an event, or the first end while no element is open.
     #[error("BadEvent event {event}")]
     BadEvent { event: u32 },
-    /// That many elements are open at the end.
+    /// `count` elements are open at the end.
     #[error("Open open {count}")]
     Open { count: u32 },
     /// The first event that breaks a rule of settled trees, and the least rule that it breaks.
     #[error("NotSettled event {event} point {point}")]
     NotSettled { event: u32, point: u8 },
-    /// Memory was refused.
+    /// An allocation failed.
     #[error("Memory")]
     OutOfMemory,
 }

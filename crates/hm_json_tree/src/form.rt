@@ -1,4 +1,4 @@
-//! Items of the array as events, before the open elements are asked.
+//! Items of the array as events, without regard to the open elements.
 ghost use Rattle.std.specs.Prelude.{◌≡◌, ◌∷◌, length, List, Some, None, IfOk, IfSome, MatchOption, is_some, option_map, option_and_then};
 ghost use Rattle.serde_json.specs.Data.{array, item, no_items};
 ghost use Rattle.serde_json.specs.View.{items_view, view};
@@ -11,7 +11,7 @@ use crate::pairs::Pairs;
 use hm_base::OutOfMemory;
 use serde_json::Value;
 
-/// What an item says of an event.
+/// An event as an item gives it.
 #[derive(Drop)]
 pub(crate) enum JsonEvent<'v> {
     Doctype { legacy: bool },
@@ -21,7 +21,7 @@ pub(crate) enum JsonEvent<'v> {
     End,
 }
 
-/// The event that an item stands for, if it is one.
+/// The event of an item, if it is one.
 pub(crate) fn form_of(item: &Value) -> Option<JsonEvent<'_>>
     ensures { (path : List Element) → reading.event_in path (view item.now) ≡ option_and_then (event_told path) result }
 {
@@ -31,7 +31,7 @@ pub(crate) fn form_of(item: &Value) -> Option<JsonEvent<'_>>
     }
 }
 
-/// The event of a kind that these say more of.
+/// The event of a kind. `rest` has the other values of its item.
 fn form_of_kind<'v>(kind: &str, rest: &'v [Value]) -> Option<JsonEvent<'v>>
     ensures { (path : List Element) → reading.event_of_kind kind.now path (items_view rest.now) ≡ option_and_then (event_told path) result }
 {
@@ -45,6 +45,7 @@ fn form_of_kind<'v>(kind: &str, rest: &'v [Value]) -> Option<JsonEvent<'v>>
     }
 }
 
+/// The doctype with this one word.
 fn doctype_in(rest: &[Value]) -> Option<JsonEvent<'_>>
     ensures { (path : List Element) → reading.doctype_in (items_view rest.now) ≡ option_and_then (event_told path) result }
 {
@@ -59,6 +60,7 @@ fn doctype_in(rest: &[Value]) -> Option<JsonEvent<'_>>
     }
 }
 
+/// The start with this name and these attributes.
 fn start_in(rest: &[Value]) -> Option<JsonEvent<'_>>
     ensures { (path : List Element) → reading.start_in path (items_view rest.now) ≡ option_and_then (event_told path) result }
 {
@@ -81,6 +83,7 @@ fn start_in(rest: &[Value]) -> Option<JsonEvent<'_>>
     }
 }
 
+/// The text with this one value.
 fn text_in(rest: &[Value]) -> Option<JsonEvent<'_>>
     ensures { (path : List Element) → reading.text_in path (items_view rest.now) ≡ option_and_then (event_told path) result }
 {
@@ -93,6 +96,7 @@ fn text_in(rest: &[Value]) -> Option<JsonEvent<'_>>
     }
 }
 
+/// The comment with this one value.
 fn comment_in(rest: &[Value]) -> Option<JsonEvent<'_>>
     ensures { (path : List Element) → reading.comment_in (items_view rest.now) ≡ option_and_then (event_told path) result }
 {
@@ -105,6 +109,7 @@ fn comment_in(rest: &[Value]) -> Option<JsonEvent<'_>>
     }
 }
 
+/// The end, which has no values.
 fn end_in(rest: &[Value]) -> Option<JsonEvent<'_>>
     ensures { (path : List Element) → reading.end_in path (items_view rest.now) ≡ option_and_then (event_told path) result }
 {
@@ -126,7 +131,7 @@ fn are_pairs(items: &[Value]) -> bool
     true
 }
 
-/// The name and the value that an item says, if it is a pair of texts.
+/// The name and the value of an item, if it is a pair of texts.
 fn as_pair(item: &Value) -> Option<(&str, &str)>
     ensures { option_map (λ p. record { name = p.0.now; value = p.1.now }) result ≡ reading.attribute_in (view item.now) }
 {
@@ -138,7 +143,7 @@ fn as_pair(item: &Value) -> Option<(&str, &str)>
     }
 }
 
-/// The texts that two items say, if both are texts.
+/// Two texts, if both items are texts.
 #[inline(always)]
 fn both<'v>(name: &'v Value, value: &'v Value) -> Option<(&'v str, &'v str)>
     ensures { option_map (λ p. record { name = p.0.now; value = p.1.now }) result ≡ reading.attribute_in (array (item (view name.now) (item (view value.now) no_items))) }
@@ -146,7 +151,7 @@ fn both<'v>(name: &'v Value, value: &'v Value) -> Option<(&'v str, &'v str)>
     Some((name.as_str()?, value.as_str()?))
 }
 
-/// The name and the value that an item says, which is a pair of texts; else both are empty.
+/// The name and the value of an item that is a pair of texts. Both are empty if it isn't.
 pub(crate) fn pair_of(item: &Value) -> (&str, &str)
     ensures { record { name = result.0.now; value = result.1.now } ≡ attribute_at item.now }
 {
@@ -156,7 +161,7 @@ pub(crate) fn pair_of(item: &Value) -> (&str, &str)
     }
 }
 
-/// How many elements are open after an event. Where none is open, there is no end.
+/// How many elements are open after an event. None for an end while no element is open.
 pub(crate) fn depth_after(form: &JsonEvent<'_>, depth: u32) -> Result<Option<u32>, OutOfMemory>
     ensures { IfOk result (λ next. (path : List Element) → length path ≡ depth → MatchOption next (event_told path form.now ≡ None)
         (λ n. (e : Event) × (event_told path form.now ≡ Some e) × (length (path_after_event path e) ≡ n))) }

@@ -1,4 +1,4 @@
-//! Names and values of a start, as items of JSON or as texts.
+//! The names and values of a start, as items of JSON or as texts.
 ghost use Rattle.std.specs.Prelude.{◌≡◌, ◌<◌, length, map, slice_get, Some};
 ghost use Rattle.hm_json_tree.specs.Pairs.{attributes_at, text_attribute};
 
@@ -6,13 +6,14 @@ use crate::form::pair_of;
 use serde_json::Value;
 use std::marker::Model;
 
+/// Where the pairs come from.
 #[derive(Drop)]
 enum Source<'v> {
     Items(&'v [Value]),
     Texts(Vec<(&'v str, &'v str)>),
 }
 
-/// The names and the values of a start. Contracts see the list of them, in which an item that is no pair has no bytes.
+/// The names and the values of a start. Contracts see the list of them. An item that isn't a pair is two empty texts.
 #[derive(Drop)]
 pub(crate) struct Pairs<'v> {
     source: Source<'v>,
@@ -30,7 +31,7 @@ impl<'v> Model for Pairs<'v> {
 }
 
 impl<'v> Pairs<'v> {
-    /// Those of items.
+    /// The pairs of items.
     pub(crate) fn of_items(items: &'v [Value]) -> Pairs<'v>
         ensures { result ≡ attributes_at items.now }
     {
@@ -39,7 +40,7 @@ impl<'v> Pairs<'v> {
         }
     }
 
-    /// Those that were read as texts.
+    /// The pairs of texts.
     pub(crate) fn of_texts(texts: Vec<(&'v str, &'v str)>) -> Pairs<'v>
         ensures { result ≡ map text_attribute texts.entry.items }
     {
@@ -48,6 +49,7 @@ impl<'v> Pairs<'v> {
         }
     }
 
+    /// How many pairs there are.
     pub(crate) fn len(&self) -> usize
         ensures { result ≡ length self.now }
     {
@@ -69,6 +71,7 @@ impl<'v> Pairs<'v> {
     }
 }
 
+/// The name and the value of item `i`.
 fn pair_at(items: &[Value], i: usize) -> (&str, &str)
     requires { i < length items.now }
     ensures { slice_get (attributes_at items.now) i ≡ Some (record { name = result.0.now; value = result.1.now }) }

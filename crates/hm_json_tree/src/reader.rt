@@ -1,4 +1,4 @@
-//! Events that are read one after the other, as long as no rule of settled trees is broken.
+//! Reads events one after the other, as long as none breaks a rule of settled trees.
 ghost use Rattle.std.specs.Prelude.{◌≡◌, ◌+◌, ◌^◌, ◌<◌, [], ◌∷◌, ◌++◌, true, length, List, Some, None, IfOk, IfErr, IfSome, OnOk, MatchOption, is_some, ◌≢◌};
 ghost use Rattle.serde_json.specs.View.{view};
 ghost use Rattle.hm_base.specs.Walks as walks;
@@ -25,13 +25,13 @@ use hm_tree::{Attrs, Maker, Tree};
 use serde_json::Value;
 use std::alloc::Global;
 
-/// More bytes of names, values, texts and comments than this aren't kept.
+/// The most bytes of names, values, texts and comments that are kept.
 const MOST_BYTES: usize = 536_870_911;
 
-/// More events than this aren't kept.
+/// The most events that are kept.
 const MOST_EVENTS: u32 = 268_435_456;
 
-/// The events so far, none of which breaks a rule.
+/// The events so far. None of them breaks a rule.
 #[derive(Drop)]
 pub(crate) struct Reader {
     pub seen: Seen,
@@ -44,7 +44,7 @@ pub(crate) struct Reader {
 }
 
 impl Reader {
-    /// No event.
+    /// No events.
     pub(crate) fn new(alloc: Global) -> Reader
         ensures at { IsAt result }
         ensures none { result.maker ≡ [] }
@@ -59,7 +59,7 @@ impl Reader {
         }
     }
 
-    /// What an item says of the next event, if it is one.
+    /// The event of an item, if it is one.
     pub(crate) fn form_of<'v>(&self, item: &'v Value) -> Option<JsonEvent<'v>>
         ensures event { MatchOption result (event_in self.now.path (view item.now) ≡ None)
             (λ form. event_in self.now.path (view item.now) ≡ Some (told self.now.path form)) }
@@ -72,7 +72,7 @@ impl Reader {
         Some(form)
     }
 
-    /// Takes the next event, unless it breaks a rule: then the least rule that it breaks is answered.
+    /// Takes the next event, unless it breaks a rule. Returns the least rule that it breaks.
     pub(crate) fn take(
         &mut self,
         alloc: Global,
@@ -89,7 +89,7 @@ impl Reader {
         self.judge(alloc, form, raw_ends, &attrs)
     }
 
-    /// The same where the rules on raw texts and on attributes were asked.
+    /// As `take`, given the answers of the rules on raw texts and on attributes.
     #[inline(always)]
     fn judge(
         &mut self,
@@ -137,7 +137,7 @@ impl Reader {
         Ok(())
     }
 
-    /// The tree of all events, or what is missing at their end.
+    /// The tree of all events. It is a fault if elements are open or something is missing at the end.
     pub(crate) fn finish(self) -> Result<Tree, JsonFault>
         requires { IsAt self }
         ensures ok { IfOk result (λ tree. of_listed (put_events self.maker (at_end self.path)) ≡ walk tree) }
@@ -157,13 +157,14 @@ impl Reader {
     }
 }
 
+/// Whether the event is an end.
 fn is_end(form: &JsonEvent<'_>) -> bool
     ensures { result ≡ forms.is_end form.now }
 {
     matches!(form, JsonEvent::End)
 }
 
-/// Whether a raw text ends where the end tag of its element follows it. Other events pass.
+/// Whether a raw text ends right at the end tag that follows it. True for other events.
 fn is_raw_text(
     alloc: Global,
     path: &OpenElements,
@@ -181,6 +182,7 @@ fn is_raw_text(
     }
 }
 
+/// Whether a raw text has no CR and ends right at the end tag of the innermost element.
 #[tactic(auto, unfolding(hm_elements::specs::Settled::is_raw_text))]
 fn raw_ends(alloc: Global, path: &OpenElements, text: &str) -> Result<bool, OutOfMemory>
     ensures { IfOk result (λ ends. ends ≡ settled.is_raw_text path.now (walks.text text.now true) []) }
@@ -191,7 +193,7 @@ fn raw_ends(alloc: Global, path: &OpenElements, text: &str) -> Result<bool, OutO
     ends_raw(alloc, path.current(), text)
 }
 
-/// The attributes of a start, unless they aren't in form. Other events have none.
+/// The attributes of a start. None if one isn't allowed. Other events have an empty list.
 fn attributes_in(alloc: Global, form: &JsonEvent<'_>) -> Result<Option<Attrs>, OutOfMemory>
     ensures form { IfOk result (λ made. (path : List Element) → is_some made ≡ settled.has_attributes_in_form path (told path form.now) []) }
     ensures made { IfOk result (λ made. IfSome made (HasAttributes form.now)) }
@@ -202,7 +204,7 @@ fn attributes_in(alloc: Global, form: &JsonEvent<'_>) -> Result<Option<Attrs>, O
     }
 }
 
-/// The bytes with those of an event.
+/// `bytes` plus those of an event. It fails with `OutOfMemory` if that is more than is kept.
 fn with_event(bytes: usize, form: &JsonEvent<'_>, attrs: &Attrs) -> Result<usize, OutOfMemory>
     requires room { bytes < 2 ^ 29 }
     requires attributes { HasAttributes form.now attrs.now }
@@ -218,7 +220,7 @@ fn with_event(bytes: usize, form: &JsonEvent<'_>, attrs: &Attrs) -> Result<usize
     }
 }
 
-/// The bytes with those of attributes.
+/// `bytes` plus those of attributes. It fails with `OutOfMemory` if that is more than is kept.
 fn with_attributes(bytes: usize, attrs: &Attrs) -> Result<usize, OutOfMemory>
     requires { bytes < 2 ^ 29 }
     ensures sum { IfOk result (λ sum. sum ≡ bytes + attributes_size attrs.now) }
@@ -233,7 +235,7 @@ fn with_attributes(bytes: usize, attrs: &Attrs) -> Result<usize, OutOfMemory>
     Ok(sum)
 }
 
-/// The sum, where it isn't more than is kept.
+/// The sum. It fails with `OutOfMemory` if that is more than is kept.
 fn with_bytes(bytes: usize, more: usize) -> Result<usize, OutOfMemory>
     requires { bytes < 2 ^ 29 }
     ensures sum { IfOk result (λ sum. sum ≡ bytes + more) }
@@ -245,7 +247,7 @@ fn with_bytes(bytes: usize, more: usize) -> Result<usize, OutOfMemory>
     Ok(bytes + more)
 }
 
-/// Puts an event to the others, and opens or closes its element.
+/// Appends an event, and opens or closes its element.
 fn put_event(
     alloc: Global,
     maker: &mut Maker,

@@ -34,7 +34,7 @@ pub fn read_tree(alloc: Global, bytes: &[u8]) -> Result<Tree, JsonFault>
     }
 }
 
-/// The same of bytes that aren't too many, by their whole value.
+/// As `read_tree`, for bytes within the limit, by their whole JSON value.
 fn read_value(alloc: Global, bytes: &[u8]) -> Result<Tree, JsonFault>
     requires { length bytes.now ≤ limits.JSON_LIMIT }
     ensures tree { IfOk result (λ tree. json_walk bytes.now ≡ walk tree) }
@@ -45,7 +45,7 @@ fn read_value(alloc: Global, bytes: &[u8]) -> Result<Tree, JsonFault>
     match value.as_array() {
         Some(items) => {
             let tree = read_items(alloc, items)?;
-            // What is true of every tree comes with its length.
+            // Asked only for its contract: what is true of each tree.
             let _len = tree.len();
             Ok(tree)
         }
@@ -53,6 +53,7 @@ fn read_value(alloc: Global, bytes: &[u8]) -> Result<Tree, JsonFault>
     }
 }
 
+/// The bytes as JSON.
 fn parse(alloc: Global, bytes: &[u8]) -> Result<Value, JsonFault>
     ensures ok { IfOk result (λ value. json.json bytes.now ≡ Some (view value)) }
     ensures fault { IfErr result
@@ -69,7 +70,7 @@ fn parse(alloc: Global, bytes: &[u8]) -> Result<Value, JsonFault>
     }
 }
 
-/// The tree of the events that the items stand for.
+/// The tree of the events in these items.
 fn read_items(alloc: Global, items: &[Value]) -> Result<Tree, JsonFault>
     ensures tree { IfOk result (λ tree. of_listed (events_in 0 [] (items_view items.now)) ≡ walk tree) }
     ensures fault { IfErr result (λ fault. fault ≢ JsonFault.OutOfMemory → of_listed (events_in 0 [] (items_view items.now)) ≡ fault_walk fault) }
@@ -79,7 +80,7 @@ fn read_items(alloc: Global, items: &[Value]) -> Result<Tree, JsonFault>
     reader.finish()
 }
 
-/// Takes the events of all items, where none was taken before.
+/// Takes the events of all items. None was taken before.
 #[inline(always)]
 fn take_items(alloc: Global, items: &[Value], reader: &mut Reader) -> Result<(), JsonFault>
     requires at { IsAt reader.old }
@@ -95,7 +96,7 @@ fn take_items(alloc: Global, items: &[Value], reader: &mut Reader) -> Result<(),
     Ok(())
 }
 
-/// Takes the event of an item, after those of the items before it.
+/// Takes the event of item `i`. Those of the items before it were taken.
 #[inline(always)]
 fn take_item(alloc: Global, items: &[Value], i: usize, reader: &mut Reader) -> Result<(), JsonFault>
     requires inside { i < length items.now }
@@ -117,7 +118,7 @@ fn take_item(alloc: Global, items: &[Value], i: usize, reader: &mut Reader) -> R
     Ok(())
 }
 
-/// Whether events stand from an item on, before which so many elements are open, and all elements are closed at the end.
+/// Checks that the items from `from` on are events and close all elements. `opened` are open before them.
 fn follow(items: &[Value], from: usize, opened: u32) -> Result<(), JsonFault>
     requires { from ≤ length items.now }
     ensures ok { OnOk result ((path : List Element) → length path ≡ opened → (w : List Event) × (events_in from path (items_view (drop from items.now)) ≡ listed w)) }
@@ -136,7 +137,7 @@ fn follow(items: &[Value], from: usize, opened: u32) -> Result<(), JsonFault>
     Ok(())
 }
 
-/// How many elements are open after an item, if it is an event.
+/// How many elements are open after an item. None if it isn't an event, or is an end while no element is open.
 fn next_depth(item: &Value, depth: u32) -> Result<Option<u32>, OutOfMemory>
     ensures { IfOk result (λ next. (path : List Element) → length path ≡ depth → MatchOption next (event_in path (view item.now) ≡ None)
         (λ n. (e : Event) × (event_in path (view item.now) ≡ Some e) × (length (path_after_event path e) ≡ n))) }
@@ -147,7 +148,7 @@ fn next_depth(item: &Value, depth: u32) -> Result<Option<u32>, OutOfMemory>
     depth_after(&form, depth)
 }
 
-/// The item that is no event, by its number.
+/// The fault of item `i`, which isn't an event.
 fn bad_event(i: usize) -> JsonFault
     ensures { result ≢ JsonFault.OutOfMemory → result ≡ JsonFault.BadEvent i }
 {
@@ -157,7 +158,7 @@ fn bad_event(i: usize) -> JsonFault
     }
 }
 
-/// The event that breaks a rule, by its number.
+/// The fault of event `i`, which breaks a rule.
 fn not_settled(i: usize, point: u8) -> JsonFault
     ensures { result ≢ JsonFault.OutOfMemory → result ≡ JsonFault.NotSettled i point }
 {

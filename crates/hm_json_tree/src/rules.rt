@@ -1,4 +1,4 @@
-//! The rules of settled trees, each asked of an event by what has stood before it.
+//! The rules of settled trees. Each is a test of one event, given what came before it.
 ghost use Rattle.std.specs.Prelude.{◌≡◌, ◌&&◌, ◌||◌, List, [], ◌∷◌, not, Some, is_some, bytes_eq};
 ghost use Rattle.hm_base.specs.Walks as walks;
 ghost use Rattle.hm_base.specs.Walks.{Attribute, Element, Event, start};
@@ -19,14 +19,14 @@ use hm_elements::{Named, is_boundary, is_refused, is_root, same_name, svg_name};
 use hm_open_elements::OpenElements;
 use hm_scan::is_tag_name;
 
-/// Whether an element of this name is one of SVG here.
+/// Whether an element of this name here is one of SVG.
 pub(crate) fn is_foreign(path: &OpenElements, name: &str) -> bool
     ensures { result ≡ is_svg_here name.now path.now }
 {
     same_name(name, "svg") || path.is_in_svg()
 }
 
-/// Whether an HTML element stands in an element that may hold it.
+/// Whether an HTML element is in an element that allows it.
 fn nests(path: &OpenElements, form: &JsonEvent<'_>) -> bool
     ensures { result ≡ settled.nests path.now (told path.now form.now) [] }
 {
@@ -36,6 +36,7 @@ fn nests(path: &OpenElements, form: &JsonEvent<'_>) -> bool
     }
 }
 
+/// As `nests`, for a start of this name.
 #[tactic(auto, unfolding(hm_elements::specs::Settled::nests))]
 fn start_nests(path: &OpenElements, name: &str) -> bool
     ensures { (attributes : List Attribute) → result ≡ settled.nests path.now (start name.now (is_svg_here name.now path.now) attributes) [] }
@@ -52,7 +53,7 @@ fn start_nests(path: &OpenElements, name: &str) -> bool
         && !path.bars(tag)
 }
 
-/// Whether an element of SVG stands where it may.
+/// Whether an element of SVG is in an element that allows it.
 fn is_svg_in_place(path: &OpenElements, form: &JsonEvent<'_>) -> bool
     ensures { result ≡ settled.is_svg_in_place path.now (told path.now form.now) [] }
 {
@@ -62,6 +63,7 @@ fn is_svg_in_place(path: &OpenElements, form: &JsonEvent<'_>) -> bool
     }
 }
 
+/// As `is_svg_in_place`, for a start of this name.
 #[tactic(auto, unfolding(hm_elements::specs::Settled::is_svg_in_place))]
 fn start_is_in_place(path: &OpenElements, name: &str) -> bool
     ensures { (attributes : List Attribute) → result ≡ settled.is_svg_in_place path.now (start name.now (is_svg_here name.now path.now) attributes) [] }
@@ -73,14 +75,15 @@ fn start_is_in_place(path: &OpenElements, name: &str) -> bool
     }
 }
 
-/// Whether nothing but its end follows the start of a void element.
+/// Whether the start of a void element is followed by its end.
 fn keeps_void_empty(seen: &Seen, form: &JsonEvent<'_>) -> bool
     ensures { (path : List Element) → result ≡ (not seen.now.void || is_end (told path form.now)) }
 {
     !seen.void || matches!(form, JsonEvent::End)
 }
 
-/// Whether a text may stand here, and nothing stands beside a text that is to be alone.
+/// Whether texts follow the rules: without a zero byte, no two of them neighbours, and with nothing beside them in an
+/// element that holds one text.
 #[tactic(auto, unfolding(hm_elements::specs::Settled::is_text_in_place))]
 fn is_text_in_place(seen: &Seen, path: &OpenElements, form: &JsonEvent<'_>) -> bool
     ensures { result ≡ (settled.is_text_in_place path.now (told path.now form.now) [] && not (seen.now.text && is_text (told path.now form.now))) }
@@ -94,6 +97,7 @@ fn is_text_in_place(seen: &Seen, path: &OpenElements, form: &JsonEvent<'_>) -> b
     }
 }
 
+/// Whether a text is allowed in the innermost element.
 #[tactic(auto, unfolding(hm_elements::specs::Settled::is_text_in_place))]
 fn is_text_here(path: &OpenElements, text: &str) -> bool
     ensures { result ≡ settled.is_text_in_place path.now (walks.text text.now (is_in_raw path.now)) [] }
@@ -102,7 +106,7 @@ fn is_text_here(path: &OpenElements, text: &str) -> bool
     !bytes.is_empty() && !has_byte(bytes, 0) && (!path.is_in_blank() || is_blank(bytes))
 }
 
-/// Whether a comment is one that can be written.
+/// Whether a comment can be written in a page.
 #[tactic(auto, unfolding(hm_elements::specs::Settled::is_comment_in_form))]
 fn is_comment_in_form(form: &JsonEvent<'_>) -> bool
     ensures { (path : List Element) → result ≡ settled.is_comment_in_form path (told path form.now) [] }
@@ -113,7 +117,7 @@ fn is_comment_in_form(form: &JsonEvent<'_>) -> bool
     }
 }
 
-/// Whether no more elements are open after an event than may be.
+/// Whether at most as many elements as allowed are open after an event.
 #[tactic(auto, unfolding(hm_elements::specs::Settled::is_not_deep, hm_elements::specs::Paths::is_deep))]
 fn is_not_deep(path: &OpenElements, form: &JsonEvent<'_>) -> bool
     ensures { result ≡ settled.is_not_deep path.now (told path.now form.now) [] }
@@ -124,13 +128,14 @@ fn is_not_deep(path: &OpenElements, form: &JsonEvent<'_>) -> bool
     }
 }
 
+/// The rule `point` if it is broken, or else the answer of the other rules.
 fn unless(holds: bool, point: u8, more: Option<u8>) -> Option<u8>
     ensures { result ≡ breaks.unless holds point more }
 {
     if holds { more } else { Some(point) }
 }
 
-/// The least rule that an event breaks. The rules on raw texts and on attributes were asked before.
+/// The least rule that an event breaks. The answers of the rules on raw texts and on attributes are given.
 pub(crate) fn point_of(
     seen: &Seen,
     path: &OpenElements,

@@ -1,4 +1,4 @@
-//! What has stood at the top and under `html`, and directly before.
+//! What the rules need from earlier events: those at the top, those directly in `html`, and the last one.
 ghost use Rattle.std.specs.Prelude.{◌≡◌, [], ◌∷◌, List, Some, option_map};
 ghost use Rattle.hm_base.specs.Walks.{Element, Event};
 ghost use Rattle.hm_elements.specs.Paths.{is_in_svg};
@@ -14,7 +14,7 @@ use crate::texts::is_blank;
 use hm_elements::{is_root, is_void, same_name};
 use hm_open_elements::OpenElements;
 
-/// What has stood at the top.
+/// What there was at the top.
 #[derive(Clone, Copy)]
 pub(crate) enum Top {
     NoDoctype,
@@ -22,7 +22,7 @@ pub(crate) enum Top {
     AllThere,
 }
 
-/// What has stood under `html`.
+/// What there was directly in `html`.
 #[derive(Clone, Copy)]
 pub(crate) enum Frame {
     NoHead,
@@ -30,19 +30,19 @@ pub(crate) enum Frame {
     HasBody,
 }
 
-/// What is kept of the events before one, beside the open elements.
+/// What is kept of earlier events, beside the open elements.
 #[derive(Clone, Copy)]
 pub(crate) struct Seen {
     pub top: Top,
     pub frame: Frame,
-    /// The start of a void element is directly before.
+    /// The event directly before is the start of a void element.
     pub void: bool,
-    /// A text is directly before.
+    /// The event directly before is a text.
     pub text: bool,
 }
 
 impl Top {
-    /// What has stood at the top after an event, where it may stand.
+    /// What there was at the top, with one more event. None if it isn't allowed there.
     pub(crate) fn after(self, path: &OpenElements, form: &JsonEvent<'_>) -> Option<Top>
         ensures { option_map top_of result ≡ top_after (top_of self) path.now (told path.now form.now) }
     {
@@ -55,7 +55,7 @@ impl Top {
         }
     }
 
-    /// The same where no element is open.
+    /// As `after`, for an event while no element is open.
     fn next(self, form: &JsonEvent<'_>) -> Option<Top>
         ensures { option_map top_of result ≡ next_top (top_of self) (told [] form.now) }
     {
@@ -73,7 +73,7 @@ impl Top {
 }
 
 impl Frame {
-    /// What has stood under `html` after an event, where it may stand.
+    /// What there was directly in `html`, with one more event. None if it isn't allowed there.
     pub(crate) fn after(self, path: &OpenElements, form: &JsonEvent<'_>) -> Option<Frame>
         ensures { option_map frame_of result ≡ frame_after (frame_of self) path.now (told path.now form.now) }
     {
@@ -92,7 +92,7 @@ impl Frame {
         }
     }
 
-    /// The same directly in the outermost element, which is one of SVG where `svg` is set.
+    /// As `after`, for an event directly in the outermost element. `svg` says whether that is one of SVG.
     fn next(self, svg: bool, form: &JsonEvent<'_>) -> Option<Frame>
         ensures { (m : Element) → svg ≡ m.foreign → option_map frame_of result ≡ next_frame (frame_of self) (told (m ∷ []) form.now) }
     {
@@ -119,7 +119,7 @@ impl Frame {
     }
 }
 
-/// Whether this is the start of `head` or `body` where no element is open.
+/// Whether this is the start of `head` or `body` while no element is open.
 fn starts_head_or_body(form: &JsonEvent<'_>) -> bool
     ensures { result ≡ starts_inner_root (told [] form.now) }
 {
@@ -129,7 +129,7 @@ fn starts_head_or_body(form: &JsonEvent<'_>) -> bool
     }
 }
 
-/// Whether this is the start of `html`, `head` or `body`, where `svg` says whether the innermost element is one of SVG.
+/// Whether this is the start of `html`, `head` or `body`. `svg` says whether the innermost element is one of SVG.
 fn starts_root(svg: bool, form: &JsonEvent<'_>) -> bool
     ensures { (path : List Element) → svg ≡ is_in_svg path → result ≡ settled.starts_root (told path form.now) }
 {
@@ -140,7 +140,7 @@ fn starts_root(svg: bool, form: &JsonEvent<'_>) -> bool
 }
 
 impl Seen {
-    /// Where no event has stood.
+    /// There was no event yet.
     pub(crate) fn new() -> Seen
         ensures { IsSeen result first_past }
     {
@@ -152,7 +152,7 @@ impl Seen {
         }
     }
 
-    /// What is kept after an event.
+    /// What is kept, with one more event.
     pub(crate) fn after(self, path: &OpenElements, form: &JsonEvent<'_>) -> Seen
         ensures { (p : Past) → IsSeen self p → p.path ≡ path.now → IsSeen result (past_after p (told path.now form.now)) }
     {

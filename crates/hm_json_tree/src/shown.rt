@@ -13,10 +13,10 @@ use hm_tree::Tree;
 use std::alloc::Global;
 use std::marker::Model;
 
-/// How many bytes wait at most until they are put together.
+/// The most bytes that are kept before they are written together.
 const ROOM: usize = 65_536;
 
-/// A tree as compact JSON, and a line feed. Contracts see these bytes.
+/// A tree as compact JSON, and an LF. Contracts see these bytes.
 #[derive(Drop)]
 pub struct JsonShown {
     tree: Tree,
@@ -33,7 +33,7 @@ impl Model for JsonShown {
 }
 
 impl JsonShown {
-    /// The JSON of a tree. All memory that it takes to put it is taken here, and it is the same for every tree.
+    /// The JSON of a tree. All memory that `put` needs is taken here, the same for each tree.
     pub fn of(alloc: Global, tree: Tree) -> Result<JsonShown, OutOfMemory>
         ensures { IfOk result (λ shown. shown ≡ json_text tree ++ 10 ∷ []) }
     {
@@ -41,7 +41,7 @@ impl JsonShown {
         Ok(JsonShown { tree, room })
     }
 
-    /// Puts the bytes one after the other. They never stand in memory together.
+    /// Writes the bytes one after the other. They are never in memory all together.
     pub fn put<O: Sink>(self, out: &mut O) -> Result<(), Failed>
         ensures ok { OnOk result (O.contents out.new ≡ append_known (O.contents out.old) self) }
         ensures err { OnErr result (AppendsFront (O.contents out.old) (O.contents out.new) self) }
@@ -56,7 +56,7 @@ impl JsonShown {
     }
 }
 
-/// The JSON of a tree in memory, without a line feed.
+/// The JSON of a tree in memory, without an LF. For tests.
 pub fn write_tree(alloc: Global, tree: &Tree) -> Result<Vec<u8>, OutOfMemory>
     ensures { IfOk result (λ bytes. bytes.items ≡ json_text tree.now) }
 {
@@ -71,6 +71,7 @@ pub fn write_tree(alloc: Global, tree: &Tree) -> Result<Vec<u8>, OutOfMemory>
     copied(alloc, out.bytes())
 }
 
+/// A copy of the bytes.
 #[inline(always)]
 fn copied(alloc: Global, bytes: &[u8]) -> Result<Vec<u8>, OutOfMemory>
     ensures { IfOk result (λ copy. copy.items ≡ bytes.now) }

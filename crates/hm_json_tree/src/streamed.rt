@@ -1,4 +1,4 @@
-//! Trees whose events are read one after the other, each item when the one before it was judged.
+//! Reads a tree event by event, each after the one before it was checked.
 ghost use Rattle.std.specs.Prelude.{◌≡◌, ◌≢◌, ◌<◌, ◌≤◌, [], ◌∷◌, List, length, true, IfOk, IfErr, IfSome};
 ghost use Rattle.hm_elements.specs.Settled.{Settled};
 ghost use Rattle.hm_json_tree.specs.declared.limits.TheConstants.{JSON_LIMIT};
@@ -17,7 +17,8 @@ use hm_tree::Tree;
 use json::{Scratch, Token};
 use std::alloc::Global;
 
-/// The tree of an array of events, or why it is none. Nothing is said of what isn't JSON, or has an item that is no event.
+/// The tree of an array of events, or its fault. `Ok(None)` for bytes that aren't JSON or have an item that isn't an
+/// event: their fault is found by their whole value.
 pub(crate) fn read_tokens(alloc: Global, bytes: &[u8]) -> Result<Option<Tree>, JsonFault>
     requires { length bytes.now ≤ JSON_LIMIT }
     ensures tree { IfOk result (λ read. IfSome read (λ tree. json_walk bytes.now ≡ walk tree)) }
@@ -32,7 +33,7 @@ pub(crate) fn read_tokens(alloc: Global, bytes: &[u8]) -> Result<Option<Tree>, J
     read_array(alloc, &mut tokens)
 }
 
-/// The tree of the array that stands next, up to the end of the text.
+/// The tree of the array that is the next value, up to the end of the text.
 #[inline(always)]
 fn read_array(alloc: Global, tokens: &mut json::Reader<'_>) -> Result<Option<Tree>, JsonFault>
     ensures tree { IfOk result (λ read. IfSome read (λ tree. (rest : List json.Token) × (tokens.old ≡ json.Token.begin_array ∷ rest) × Whole rest (walk tree) × (are_sound tree ≡ true))) }
@@ -44,12 +45,12 @@ fn read_array(alloc: Global, tokens: &mut json::Reader<'_>) -> Result<Option<Tre
     let Some(tree) = read_events(alloc, tokens)? else {
         return Ok(None);
     };
-    // What is true of every tree comes with its length.
+    // Asked only for its contract: what is true of each tree.
     let _len = tree.len();
     Ok(Some(tree))
 }
 
-/// The tree of the items that follow, up to the end of the text.
+/// The tree of the next items, up to the end of the text.
 fn read_events(alloc: Global, tokens: &mut json::Reader<'_>) -> Result<Option<Tree>, JsonFault>
     ensures tree { IfOk result (λ read. IfSome read (λ tree. Whole tokens.old (walk tree))) }
     ensures fault { IfErr result (λ fault. fault ≢ JsonFault.OutOfMemory → Whole tokens.old (fault_walk fault)) }
@@ -61,7 +62,8 @@ fn read_events(alloc: Global, tokens: &mut json::Reader<'_>) -> Result<Option<Tr
     Ok(Some(reader.finish()?))
 }
 
-/// Whether the items that follow are events up to the end of the text, which are then all taken, where none was before.
+/// Takes the events of the next items, up to the end of the text. Returns whether all items are events. None was taken
+/// before.
 #[inline(always)]
 fn take_events(
     alloc: Global,
@@ -83,7 +85,8 @@ fn take_events(
     Ok(is_at_end(tokens))
 }
 
-/// Whether the next item is an event, which is then taken. Where it breaks a rule, the rest of the text is read too.
+/// Takes the event of the next item. Returns whether the item is one. If it breaks a rule, the rest of the text is read
+/// too.
 fn read_event(
     alloc: Global,
     tokens: &mut json::Reader<'_>,
@@ -101,7 +104,7 @@ fn read_event(
     }
 }
 
-/// The same of the event that the item before says.
+/// As `read_event`, for an item that was read.
 #[inline(always)]
 fn take_form(
     alloc: Global,
@@ -128,7 +131,7 @@ fn take_form(
     Ok(false)
 }
 
-/// Whether events follow up to the end of the text, before which so many elements are open, and all elements are closed.
+/// Whether events follow up to the end of the text, and close all elements. `opened` are open before them.
 fn pass_events(alloc: Global, tokens: &mut json::Reader<'_>, opened: u32) -> Result<bool, JsonFault>
     ensures ok { IfOk result (λ passed. passed ≡ true → Passes tokens.old opened) }
     ensures fault { IfErr result (λ fault. fault ≢ JsonFault.OutOfMemory → PassesAs tokens.old opened (fault_walk fault)) }
@@ -149,7 +152,7 @@ fn pass_events(alloc: Global, tokens: &mut json::Reader<'_>, opened: u32) -> Res
     Ok(true)
 }
 
-/// How many elements are open after the next item, if it is an event.
+/// How many elements are open after the next item. None if it isn't an event, or is an end while no element is open.
 fn next_depth(
     alloc: Global,
     tokens: &mut json::Reader<'_>,

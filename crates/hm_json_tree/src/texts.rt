@@ -1,4 +1,4 @@
-//! Forms of names and texts, as the rules of settled trees ask for them.
+//! Names and texts that the rules of settled trees allow.
 ghost use Rattle.std.specs.Prelude.{◌≡◌, ◌++◌, length, IfOk};
 ghost use Rattle.hm_base.specs.Bytes.{all_pass, strip};
 ghost use Rattle.hm_base.specs.Bytes as bytes;
@@ -46,6 +46,7 @@ pub(crate) fn is_attribute_name(name: &[u8]) -> bool
     }
 }
 
+/// Whether all bytes are allowed in the name of an attribute of a tree.
 fn are_attribute_bytes(name: &[u8]) -> bool
     ensures { result ≡ all_pass forms.is_attribute_byte name.now }
 {
@@ -57,7 +58,7 @@ fn are_attribute_bytes(name: &[u8]) -> bool
     true
 }
 
-/// Whether the byte may stand in the name of an attribute of a tree.
+/// Whether the byte is allowed in the name of an attribute of a tree.
 #[tactic(auto, unfolding(hm_base::specs::Forms::is_attribute_byte))]
 fn is_attribute_byte(byte: u8) -> bool
     ensures { result ≡ forms.is_attribute_byte byte }
@@ -67,7 +68,7 @@ fn is_attribute_byte(byte: u8) -> bool
         || matches!(byte, b'/' | b'>' | b'=' | b'"' | b'\'' | b'<' | 0))
 }
 
-/// Whether the text may stand in a comment.
+/// Whether the text is allowed in a comment.
 #[tactic(auto, unfolding(hm_base::specs::Forms::is_comment_text))]
 pub(crate) fn is_comment_text(text: &[u8]) -> bool
     ensures { result ≡ forms.is_comment_text text.now }
@@ -79,7 +80,7 @@ pub(crate) fn is_comment_text(text: &[u8]) -> bool
         && !has_mark(text, b"--!>")
 }
 
-/// Whether the text begins with a mark.
+/// Whether the text starts with a mark.
 #[tactic(auto, using(hm_scan::proofs::Steps::begins_is))]
 fn begins(text: &[u8], mark: &[u8]) -> bool
     ensures { result ≡ is_found (strip mark.now text.now) }
@@ -87,7 +88,7 @@ fn begins(text: &[u8], mark: &[u8]) -> bool
     text.starts_with(mark)
 }
 
-/// Whether a mark stands somewhere in the text.
+/// Whether a mark is in the text.
 fn has_mark(text: &[u8], mark: &[u8]) -> bool
     ensures { result ≡ forms.has_mark mark.now text.now }
 {
@@ -99,7 +100,7 @@ fn has_mark(text: &[u8], mark: &[u8]) -> bool
     false
 }
 
-/// Whether a raw text in an element of this name ends where the end tag of the element follows it.
+/// Whether a raw text in an element of this name ends right at an end tag of that name directly after it.
 pub(crate) fn ends_raw(alloc: Global, name: &str, text: &str) -> Result<bool, OutOfMemory>
     ensures { IfOk result (λ ends. ends ≡ is_place (length text.now) (raw_text_end name.now (text.now ++ end_tag name.now))) }
 {

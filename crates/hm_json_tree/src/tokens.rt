@@ -1,4 +1,4 @@
-//! Items of the array that are read token by token. Where an item has another form than an event's, none is said.
+//! Items of the array, read token by token. An item in another form than an event's gives None.
 ghost use Rattle.std.specs.Prelude.{◌≡◌, [], true, Some, IfSome, codes, map};
 ghost use Rattle.json.specs.Json.{after_end_array};
 ghost use Rattle.hm_json_tree.specs.Pairs.{text_attribute};
@@ -9,7 +9,7 @@ use crate::pairs::Pairs;
 use json::{Reader, Token};
 use std::alloc::Global;
 
-/// The next item, if it says an event. None is said too where memory for its attributes is refused.
+/// The next item, if it is an event. None also if the allocation for its attributes fails.
 pub(crate) fn next_form<'a>(alloc: Global, tokens: &mut Reader<'a>) -> Option<JsonEvent<'a>>
     ensures { IfSome result (λ form. IsItem tokens.old form tokens.new) }
 {
@@ -21,7 +21,7 @@ pub(crate) fn next_form<'a>(alloc: Global, tokens: &mut Reader<'a>) -> Option<Js
     closed(tokens, form)
 }
 
-/// What an item says, where the bracket that closes it is next.
+/// The event, if the bracket that closes its item is next.
 #[inline(always)]
 fn closed<'a>(tokens: &mut Reader<'a>, form: JsonEvent<'a>) -> Option<JsonEvent<'a>>
     ensures { IfSome result (λ same. (same ≡ form.entry) × (after_end_array tokens.old ≡ Some tokens.new)) }
@@ -33,7 +33,7 @@ fn closed<'a>(tokens: &mut Reader<'a>, form: JsonEvent<'a>) -> Option<JsonEvent<
     }
 }
 
-/// The event of a kind that the next tokens say more of.
+/// The event of a kind, with the next tokens.
 fn form_of_kind<'a>(alloc: Global, kind: &str, tokens: &mut Reader<'a>) -> Option<JsonEvent<'a>>
     ensures { IfSome result (λ form. Says kind.now tokens.old form tokens.new) }
 {
@@ -51,6 +51,7 @@ fn form_of_kind<'a>(alloc: Global, kind: &str, tokens: &mut Reader<'a>) -> Optio
     }
 }
 
+/// A start: its name and its attributes.
 fn start<'a>(alloc: Global, tokens: &mut Reader<'a>) -> Option<JsonEvent<'a>>
     ensures { IfSome result (λ form. Says (codes "start") tokens.old form tokens.new) }
 {
@@ -62,6 +63,7 @@ fn start<'a>(alloc: Global, tokens: &mut Reader<'a>) -> Option<JsonEvent<'a>>
     })
 }
 
+/// A doctype: one word.
 fn doctype<'a>(tokens: &mut Reader<'a>) -> Option<JsonEvent<'a>>
     ensures { IfSome result (λ form. Says (codes "doctype") tokens.old form tokens.new) }
 {
@@ -88,6 +90,7 @@ fn pairs<'a>(alloc: Global, tokens: &mut Reader<'a>) -> Option<Vec<(&'a str, &'a
     Some(found)
 }
 
+/// A name and a value in an array.
 fn pair<'a>(tokens: &mut Reader<'a>) -> Option<(&'a str, &'a str)>
     ensures { IfSome result (λ read. IsPair tokens.old (text_attribute read) tokens.new) }
 {
@@ -102,6 +105,7 @@ fn pair<'a>(tokens: &mut Reader<'a>) -> Option<(&'a str, &'a str)>
     Some((name, value))
 }
 
+/// A text.
 fn text<'a>(tokens: &mut Reader<'a>) -> Option<&'a str>
     ensures { IfSome result (λ text. IsText tokens.old text.now tokens.new) }
 {

@@ -1,4 +1,4 @@
-//! The JSON of a tree, given piece by piece.
+//! The JSON of a tree, piece by piece.
 ghost use Rattle.std.specs.Prelude.{◌≡◌, ◌<◌, ◌++◌, Bool, false, nat_lt, flat_map};
 ghost use Rattle.std.specs.Char.{digit_char};
 ghost use Rattle.hm_base.specs.Walks.{doctype, start};
@@ -13,7 +13,7 @@ use hm_dump::Buffer;
 use hm_store::Sink;
 use hm_tree::{AttrsView, EventView, Tree};
 
-/// Gives the JSON of a tree.
+/// Writes the JSON of a tree.
 pub(crate) fn give_tree<O: Sink>(buffer: &mut Buffer, out: &mut O, tree: &Tree)
     ensures { Gives (O.contents out.old) (O.contents out.new) (O.faults out.old) (O.faults out.new) buffer.old buffer.new (json_text tree.now) }
 {
@@ -22,7 +22,7 @@ pub(crate) fn give_tree<O: Sink>(buffer: &mut Buffer, out: &mut O, tree: &Tree)
     buffer.give(out, b"]");
 }
 
-/// Gives an item for each event, up to one after which a put has failed.
+/// Writes an item for each event. Stops after an item if a put has failed.
 fn give_events<O: Sink>(buffer: &mut Buffer, out: &mut O, tree: &Tree)
     ensures { Gives (O.contents out.old) (O.contents out.new) (O.faults out.old) (O.faults out.new) buffer.old buffer.new (events_text tree.now) }
 {
@@ -35,14 +35,14 @@ fn give_events<O: Sink>(buffer: &mut Buffer, out: &mut O, tree: &Tree)
     }
 }
 
-/// The comma before an item, by its number.
+/// The comma before item `i`, except before the first.
 fn comma_before(i: u32) -> &'static [u8]
     ensures { result.now ≡ comma_if (nat_lt 0 i) }
 {
     if i > 0 { b"," } else { b"" }
 }
 
-/// Gives the item of an event.
+/// Writes the item of an event.
 fn give_event<O: Sink>(buffer: &mut Buffer, out: &mut O, event: &EventView<'_>)
     ensures { Gives (O.contents out.old) (O.contents out.new) (O.faults out.old) (O.faults out.new) buffer.old buffer.new (event_text (event_of event.now)) }
 {
@@ -69,7 +69,7 @@ fn doctype_text(legacy: bool) -> &'static [u8]
     }
 }
 
-/// Gives the item of a start.
+/// Writes the item of a start.
 fn give_start<O: Sink>(buffer: &mut Buffer, out: &mut O, name: &str, attrs: &AttrsView<'_>)
     ensures { (foreign : Bool) → Gives (O.contents out.old) (O.contents out.new) (O.faults out.old) (O.faults out.new) buffer.old buffer.new (event_text (start name.now foreign (attributes_shown attrs.now))) }
 {
@@ -78,7 +78,7 @@ fn give_start<O: Sink>(buffer: &mut Buffer, out: &mut O, name: &str, attrs: &Att
     buffer.give(out, b"]]");
 }
 
-/// Gives a pair for each attribute.
+/// Writes a pair for each attribute.
 fn give_attributes<O: Sink>(buffer: &mut Buffer, out: &mut O, attrs: &AttrsView<'_>)
     ensures { Gives (O.contents out.old) (O.contents out.new) (O.faults out.old) (O.faults out.new) buffer.old buffer.new (attributes_text (attributes_shown attrs.now)) }
 {
@@ -90,7 +90,7 @@ fn give_attributes<O: Sink>(buffer: &mut Buffer, out: &mut O, attrs: &AttrsView<
     }
 }
 
-/// Gives bytes, a text as it stands in quotes, and bytes after it.
+/// Writes `before`, a text, escaped for quotes, and `after`.
 fn give_quoted<O: Sink>(buffer: &mut Buffer, out: &mut O, before: &[u8], text: &str, after: &[u8])
     ensures { Gives (O.contents out.old) (O.contents out.new) (O.faults out.old) (O.faults out.new) buffer.old buffer.new (before.now ++ (flat_map escape_byte text.now ++ after.now)) }
 {
@@ -99,7 +99,7 @@ fn give_quoted<O: Sink>(buffer: &mut Buffer, out: &mut O, before: &[u8], text: &
     buffer.give(out, after);
 }
 
-/// Gives a text as it stands in quotes.
+/// Writes a text, escaped for quotes.
 fn give_escaped<O: Sink>(buffer: &mut Buffer, out: &mut O, bytes: &[u8])
     ensures { Gives (O.contents out.old) (O.contents out.new) (O.faults out.old) (O.faults out.new) buffer.old buffer.new (flat_map escape_byte bytes.now) }
 {
@@ -108,7 +108,7 @@ fn give_escaped<O: Sink>(buffer: &mut Buffer, out: &mut O, bytes: &[u8])
     }
 }
 
-/// Gives what stands in quotes for a byte.
+/// Writes a byte, escaped for quotes.
 #[tactic(auto, unfolding(json::specs::Print::escape_byte))]
 fn give_byte<O: Sink>(buffer: &mut Buffer, out: &mut O, byte: u8)
     ensures { Gives (O.contents out.old) (O.contents out.new) (O.faults out.old) (O.faults out.new) buffer.old buffer.new (escape_byte byte) }
@@ -132,7 +132,7 @@ fn give_byte<O: Sink>(buffer: &mut Buffer, out: &mut O, byte: u8)
     }
 }
 
-/// The digit of a number below 16.
+/// The hexadecimal digit of a number below 16.
 fn hex(number: u8) -> u8
     requires { number < 16 }
     ensures { result ≡ digit_char number }

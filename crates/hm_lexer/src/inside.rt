@@ -13,7 +13,7 @@ use hm_scan::{scan_raw, scan_script, scan_tag_into, scan_text};
 use hm_tree::{Lexeme, ScanFault, Tag};
 use std::alloc::Global;
 
-/// Where the text from byte `at` on ends, at the first end tag with that name.
+/// The end of the text from byte `at` on: the first end tag of that name.
 pub fn raw_text_end(text: &str, at: u32, name: &str) -> Option<u32>
     requires boundary { IsCharBoundary text.now at }
     requires size { length text.now < 2 ^ 32 }
@@ -26,7 +26,7 @@ pub fn raw_text_end(text: &str, at: u32, name: &str) -> Option<u32>
     }
 }
 
-/// Where the text of a script from byte `at` on ends.
+/// The end of the text of a script from byte `at` on.
 fn script_text_end(text: &str, at: u32) -> Option<u32>
     requires boundary { IsCharBoundary text.now at }
     requires size { length text.now < 2 ^ 32 }
@@ -38,8 +38,8 @@ fn script_text_end(text: &str, at: u32) -> Option<u32>
     }
 }
 
-/// Reads from byte `at` on in the text of an element that ends at `to` (HTML Standard, #rcdata-state): a piece of it, or at
-/// its end the end tag. `references` says whether character references are read.
+/// Reads from byte `at` on in the text of an element that ends at byte `to` (HTML Standard, #rcdata-state): a piece of
+/// it, or at `to` the end tag. `references` is true if the text may have character references.
 pub fn scan_up_to(
     alloc: Global,
     text: &str,
@@ -68,7 +68,7 @@ pub fn scan_up_to(
     Ok((Lexeme::Slice { from: at, to }, to))
 }
 
-/// Reads from byte `at` on in the raw text of an element with that name (#rawtext-state).
+/// Reads from byte `at` on in the raw text of an element of that name (#rawtext-state).
 pub fn scan_raw_text(
     alloc: Global,
     text: &str,

@@ -1,4 +1,4 @@
-//! The lexer: a place in a text, from which it is read token by token.
+//! The lexer: reads a text token by token.
 ghost use Rattle.std.specs.Prelude.{◌≡◌, ◌≢◌, ℕ, ◌+◌, ◌^◌, ◌<◌, ◌≤◌, true, false, List, drop, length, IfOk, IfErr, OnErr, IsCharBoundary};
 ghost use Rattle.hm_base.specs.RawText.{raw_end};
 ghost use Rattle.hm_base.specs.Source.{place_in};
@@ -24,7 +24,7 @@ use hm_tree::{Lexeme, Placed, ScanFault, Spanned, Tag};
 use std::alloc::Global;
 use std::marker::Model;
 
-/// Where the text of a title or a textarea ends, in bytes of the text.
+/// The end of the text of a title or a textarea, in bytes of the page's text.
 #[derive(Clone, Copy)]
 struct TextEnd {
     name: RcdataName,
@@ -33,19 +33,19 @@ struct TextEnd {
 
 /// A text that is read token by token.
 ///
-/// Contracts see the names of character references, the text with its places, and how many of its bytes were taken.
+/// Contracts see the named character references, the text with its places, and how many of its bytes were read.
 ///
-/// For a token the lexer looks no further than the token's own end. Where a piece of text ends before a character
-/// reference, it looks to the end of that reference. Where a token's end is missing, it looks to the end of the text,
-/// and the page is refused. So all tokens of a page together take time linear in it. In title, textarea, style, iframe
-/// and script the first token looks for the end tag of the element; the later pieces of a title or a textarea don't
-/// look again.
+/// To read a token the lexer looks no further than the end of the token. If a piece of text ends before a character
+/// reference, it looks to the end of that reference. If a token has no end, it looks to the end of the text, and the
+/// page is refused. So all tokens of a page together take time linear in it. In title, textarea, style, iframe and
+/// script the first token searches for the end tag of the element. The later pieces of a title or a textarea don't
+/// search again.
 #[derive(Drop)]
 pub struct Lexer<'a> {
     source: &'a SourceText,
     table: &'a Table,
     at: u32,
-    // The end of the text of a title or a textarea, once found, so that each of its pieces needn't look for it again.
+    /// The end of the text of a title or a textarea, once it was found, so that later pieces don't search for it again.
     text_end: Option<TextEnd>,
 }
 
@@ -62,7 +62,7 @@ impl<'a> Model for Lexer<'a> {
     ghost invariant = { λ l. IsLexer (map byte_of l.source.now.placed) l.at l.text_end };
 }
 
-/// The refusal that a fault gives, at byte `at` of the text.
+/// The refusal of a page by a fault at byte `at` of the text.
 fn refusal(source: &SourceText, fault: ScanFault, at: u32) -> Refused
     requires { at ≤ length source.now.placed }
     ensures { result ≡ refusal_of fault (place_in source.now.placed source.now.end at) }
@@ -80,7 +80,7 @@ fn refusal(source: &SourceText, fault: ScanFault, at: u32) -> Refused
     }
 }
 
-/// Where the next token begins, from byte `at` on.
+/// The byte at or after `at` at which the next token starts.
 #[inline(always)]
 fn token_start(text: &str, at: u32, mode: Mode) -> u32
     requires boundary { IsCharBoundary text.now at }
@@ -93,7 +93,7 @@ fn token_start(text: &str, at: u32, mode: Mode) -> u32
     }
 }
 
-// The end of a text that is kept, where byte `to` isn't after it.
+/// The known end of a text, unless byte `to` is after it.
 #[inline(always)]
 fn kept_end(end: Option<TextEnd>, to: u32) -> Option<TextEnd>
     ensures { (s : List ℕ) (at : ℕ) → at ≤ to → IsCharBoundary s to → IsLexer s at end → IsLexer s to result }
@@ -118,11 +118,10 @@ impl<'a> Lexer<'a> {
         }
     }
 
-    /// Reads the next token, with the bytes of the text that it was read from; None at the end of the text.
+    /// Reads the next token, with the bytes of the text that it was read from. None at the end of the text.
     ///
-    /// `</>` stands for nothing and is skipped. A refusal has the place of the token's first byte in the page, and
-    /// leaves the lexer as it was. Its rule is `Cut` where the token's end is missing, `BadName`, `TooManyAttributes`
-    /// or `BadDoctype`.
+    /// `</>` is no token and is skipped. A refusal has the place of the token's first byte in the page, and leaves the
+    /// lexer unchanged. Its rule is `Cut` if the token has no end, `BadName`, `TooManyAttributes` or `BadDoctype`.
     pub fn next(&mut self, alloc: Global, mode: Mode) -> Result<Option<Spanned>, Refused>
         ensures ok { IfOk result (λ token. Gives self.old (mode_of mode) token self.new) }
         ensures err { IfErr result (λ refusal. Refuses self.old (mode_of mode) refusal) }
@@ -136,8 +135,8 @@ impl<'a> Lexer<'a> {
         }
     }
 
-    /// The same, with a tag's name and attributes put into `tag`, in place of what was there. After a refusal nothing
-    /// is said of what stands in it.
+    /// As `next`, but puts a tag's name and attributes into `tag`, over those of an earlier tag. After a refusal they
+    /// may be anything.
     pub fn next_into(
         &mut self,
         alloc: Global,
@@ -172,8 +171,8 @@ impl<'a> Lexer<'a> {
         self.at
     }
 
-    /// Reads the next token of a text that may go on after its end, or a piece of it where it is ordinary text. None where
-    /// the bytes that are there don't tell it yet; a token that isn't whole is no fault.
+    /// Reads the next token of a text of which more may follow, or a piece of it if it is ordinary text. None if more
+    /// input is needed; an incomplete token isn't an error.
     pub fn part_into(
         &mut self,
         alloc: Global,
@@ -201,7 +200,7 @@ impl<'a> Lexer<'a> {
         Ok(self.part_of_text(mode, begin))
     }
 
-    // Reads the next token, where no piece of it is taken.
+    /// Reads the next token, of which no piece may be taken. None if more input is needed.
     fn whole_part(
         &mut self,
         alloc: Global,
@@ -228,7 +227,7 @@ impl<'a> Lexer<'a> {
         }
     }
 
-    // Reads the tag that begins at the lexer's place, where its end is there.
+    /// Reads the tag at the lexer's place. None if it has no end yet.
     #[inline(always)]
     fn tag_part(
         &mut self,
@@ -258,7 +257,7 @@ impl<'a> Lexer<'a> {
         }
     }
 
-    // Reads the piece of ordinary text that begins at `from`.
+    /// Reads the piece of ordinary text that starts at `from`. None if more input is needed.
     #[inline(always)]
     fn part_of_text(&mut self, mode: Mode, from: u32) -> Option<Placed>
         requires markup { has_markup (mode_of mode) ≡ true }
@@ -276,7 +275,7 @@ impl<'a> Lexer<'a> {
         }
     }
 
-    // Reads the tag that begins at the lexer's place.
+    /// Reads the tag at the lexer's place.
     #[inline(always)]
     fn next_tag(
         &mut self,
@@ -300,7 +299,7 @@ impl<'a> Lexer<'a> {
         }
     }
 
-    // Reads the token that begins at `from`, the next place at which one does.
+    /// Reads the token that starts at `from`, the next place at which one starts.
     fn scan(
         &mut self,
         alloc: Global,
@@ -329,7 +328,7 @@ impl<'a> Lexer<'a> {
         }
     }
 
-    // Reads from the place of the lexer on in the text of a title or a textarea.
+    /// Reads from the lexer's place on in the text of a title or a textarea.
     fn scan_rcdata(
         &mut self,
         alloc: Global,
@@ -361,7 +360,7 @@ impl<'a> Lexer<'a> {
         }
     }
 
-    // Where the text of a title or a textarea ends, from the place of the lexer on.
+    /// The end of the text of a title or a textarea, from the lexer's place on.
     fn end_of(&self, name: RcdataName) -> Option<u32>
         ensures { Ends (raw_end (rcdata_name name) (drop self.now.at (text_of self.now))) (text_of self.now) self.now.at result }
     {
@@ -373,7 +372,7 @@ impl<'a> Lexer<'a> {
         raw_text_end(self.source.text(), self.at, name.as_str())
     }
 
-    // Goes on to a place further on.
+    /// Advances to byte `to`.
     #[inline(always)]
     fn advance(&mut self, to: u32)
         requires forward { self.old.at ≤ to }

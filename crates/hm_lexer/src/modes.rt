@@ -1,4 +1,4 @@
-//! Modes: what kind of text is read.
+//! Modes: which kind of text is read.
 ghost use Rattle.std.specs.Prelude.{◌≡◌};
 ghost use Rattle.hm_lexer.specs.Modes.{mode_of, raw_name, rcdata_name};
 ghost use Rattle.hm_lexer.specs.Steps as steps;
@@ -22,7 +22,7 @@ impl RcdataName {
     }
 }
 
-/// An element whose text has neither character references nor markup (#rawtext-state).
+/// An element whose text has no character references and no markup (#rawtext-state).
 #[derive(Clone, Copy, PartialEq, Eq)]
 pub enum RawName {
     Style,
@@ -41,23 +41,23 @@ impl RawName {
     }
 }
 
-/// What kind of text is read next (#data-state to #script-data-state).
+/// Which kind of text is read next (#data-state to #script-data-state).
 #[derive(Clone, Copy, PartialEq, Eq)]
 pub enum Mode {
     /// Ordinary text: tags, comments, doctypes, and the text between them.
     Html,
-    /// The same in an element of SVG, where CDATA sections may stand (#markup-declaration-open-state).
+    /// As `Html`, but in an element of SVG, where CDATA sections are read too (#markup-declaration-open-state).
     Foreign,
-    /// The text of title or textarea, and its end tag.
+    /// The text of a title or a textarea, and its end tag.
     Rcdata { name: RcdataName },
-    /// The text of style or iframe, and its end tag.
+    /// The text of a style or an iframe, and its end tag.
     Raw { name: RawName },
     /// The text of a script, and its end tag.
     Script,
 }
 
 impl Mode {
-    /// Whether start tags are read.
+    /// Whether there may be start tags.
     pub(crate) fn has_markup(self) -> bool
         ensures { result ≡ steps.has_markup (mode_of self) }
     {

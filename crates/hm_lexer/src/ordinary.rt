@@ -1,4 +1,4 @@
-//! Ordinary text: markup, and the text between.
+//! Ordinary text: markup, and the text between it.
 ghost use Rattle.std.specs.Prelude.{◌≡◌, ◌≢◌, ◌+◌, ◌^◌, ◌<◌, ◌≤◌, drop, false, length, true, IfOk, IfErr, IsCharBoundary};
 ghost use Rattle.hm_scan.specs.Texts as texts;
 ghost use Rattle.hm_token_laws.specs.First as tokens;
@@ -17,7 +17,7 @@ use hm_scan::{
 use hm_tree::{Lexeme, ScanFault, Tag, Token};
 use std::alloc::Global;
 
-/// Whether the bytes begin with `</>`, which stands for nothing (#end-tag-open-state).
+/// Whether the bytes start with `</>`, which is no token (#end-tag-open-state).
 fn begins_empty_tag(bytes: &[u8]) -> bool
     ensures { result ≡ steps.begins_empty_tag bytes.now }
 {
@@ -27,7 +27,7 @@ fn begins_empty_tag(bytes: &[u8]) -> bool
     }
 }
 
-/// The first place at or after `at` where no `</>` begins; each one before it is skipped (#end-tag-open-state).
+/// The first place at or after `at` that has no `</>` (#end-tag-open-state).
 pub fn after_empty_tags(text: &str, at: u32) -> u32
     requires boundary { IsCharBoundary text.now at }
     requires size { length text.now < 2 ^ 32 }
@@ -41,7 +41,7 @@ pub fn after_empty_tags(text: &str, at: u32) -> u32
     from as u32
 }
 
-// What was read, with a tag's name and attributes put into `tag`.
+/// A token that was read, with its tag's name and attributes put into `tag`.
 fn placed(read: Result<(Token, u32), ScanFault>, tag: &mut Tag) -> Result<(Lexeme, u32), ScanFault>
     ensures { read ≡ read_with result tag.new }
 {
@@ -51,7 +51,7 @@ fn placed(read: Result<(Token, u32), ScanFault>, tag: &mut Tag) -> Result<(Lexem
     }
 }
 
-/// Reads the markup that begins at byte `at` (#markup-declaration-open-state).
+/// Reads the markup that starts at byte `at` (#markup-declaration-open-state). It isn't a tag.
 fn scan_markup(
     alloc: Global,
     text: &str,
@@ -83,8 +83,8 @@ fn scan_markup(
     placed(scan_comment(text, at), tag)
 }
 
-/// Reads the markup or the piece of text that begins at byte `at` (#tag-open-state, #end-tag-open-state). `foreign` says that
-/// a CDATA section may begin there.
+/// Reads the markup or the piece of text that starts at byte `at` (#tag-open-state, #end-tag-open-state). `foreign` is
+/// true in SVG, where a CDATA section may start there.
 pub fn scan_here(
     alloc: Global,
     text: &str,

@@ -1,4 +1,4 @@
-//! Pieces of an ordinary text that may go on after its end.
+//! Pieces of an ordinary text of which more may follow.
 ghost use Rattle.std.specs.Prelude.{◌≡◌, ◌^◌, ◌<◌, ◌≤◌, drop, false, length, true, MatchOption, IsCharBoundary};
 ghost use Rattle.memchr.specs.Find.{IsFirstByte};
 ghost use Rattle.hm_base.specs.Bytes.{some_passes};
@@ -17,7 +17,7 @@ use hm_scan::begins_markup;
 use hm_tree::Lexeme;
 use memchr::memchr2;
 
-/// Whether the bytes after a '<' tell whether markup begins.
+/// Whether the bytes after a `<` are enough to decide whether it starts markup.
 fn tells_markup(bytes: &[u8]) -> bool
     ensures { result ≡ specs.tells_markup bytes.now }
 {
@@ -28,7 +28,7 @@ fn tells_markup(bytes: &[u8]) -> bool
     }
 }
 
-/// Whether a byte ends each reference that is open before it.
+/// Whether a byte ends each reference that is unfinished before it.
 #[tactic(auto, unfolding(hm_base::specs::Bytes::is_alnum, hm_base::specs::Bytes::is_letter, hm_base::specs::Bytes::is_digit_of))]
 fn ends_reference(byte: u8) -> bool
     ensures { result ≡ specs.ends_reference byte }
@@ -36,7 +36,7 @@ fn ends_reference(byte: u8) -> bool
     !(byte.is_ascii_alphanumeric() || byte == b'#')
 }
 
-/// Whether a reference that is open before the bytes ends in them.
+/// Whether a reference that is unfinished before these bytes ends in them.
 fn has_reference_end(bytes: &[u8]) -> bool
     ensures { result ≡ some_passes specs.ends_reference bytes.now }
 {
@@ -48,7 +48,7 @@ fn has_reference_end(bytes: &[u8]) -> bool
     false
 }
 
-/// Whether the bytes tell whether markup or a reference begins with the first of them.
+/// Whether the bytes are enough to decide whether markup or a reference starts at their first one.
 fn is_told(bytes: &[u8]) -> bool
     requires { 0 < length bytes.now }
     ensures { result ≡ parts.is_told_here bytes.now }
@@ -60,7 +60,7 @@ fn is_told(bytes: &[u8]) -> bool
     }
 }
 
-/// Whether the byte at a place stands for itself, whatever follows the text.
+/// Whether the byte at a place is plain text, whatever follows the text.
 fn stays_plain(table: &Table, text: &str, at: usize) -> bool
     requires inside { at < length text.now }
     requires size { length text.now < 2 ^ 32 }
@@ -73,17 +73,17 @@ fn stays_plain(table: &Table, text: &str, at: usize) -> bool
     bytes[0] != b'&' || read_reference(table, bytes, false).is_none()
 }
 
-/// Whether the byte is '<' or '&'.
+/// Whether the byte is `<` or `&`.
 fn is_sign(byte: u8) -> bool
     ensures { result ≡ texts_at.is_sign false byte }
 {
     byte == b'<' || byte == b'&'
 }
 
-/// How many bytes are looked at one by one before vectors look at more.
+/// How many bytes are compared one by one before a search by vectors.
 const NEAR: usize = 8;
 
-/// The first '<' or '&' among the bytes. Most pieces of text are short, so the first bytes are looked at one by one.
+/// The first `<` or `&` among the bytes. Most pieces of text are short, so the first bytes are compared one by one.
 fn first_sign(bytes: &[u8]) -> Option<usize>
     ensures { IsFirstByte (texts_at.is_sign false) bytes.now result }
 {
@@ -99,7 +99,8 @@ fn first_sign(bytes: &[u8]) -> Option<usize>
     }
 }
 
-/// Where the text ends that began before `from`, or can't be told to go on.
+/// The end of the piece of text that started before `from`: the next markup or reference, or the first place that needs
+/// more input.
 fn piece_end(table: &Table, text: &str, from: usize) -> usize
     requires inside { from ≤ length text.now }
     requires size { length text.now < 2 ^ 32 }
@@ -117,8 +118,8 @@ fn piece_end(table: &Table, text: &str, from: usize) -> usize
     bytes.len()
 }
 
-/// Reads what is ready of the ordinary text at `from`, where no markup begins: one reference, or a piece of text. None where
-/// what is there doesn't tell whether markup or a reference begins.
+/// Reads the start of the ordinary text at `from`: one reference, or a piece of text. No markup starts there. None if
+/// more input is needed to decide whether markup or a reference starts there.
 pub fn scan_part(text: &str, from: u32, table: &Table) -> Option<(Lexeme, u32)>
     requires inside { from < length text.now }
     requires boundary { IsCharBoundary text.now from }

@@ -1,4 +1,4 @@
-//! What is explained of a page.
+//! The lines of `explain` for a page.
 ghost use Rattle.std.specs.Prelude.{◌≡◌, ◌⊎◌, ◌++◌, ◌∷◌, [], ◌≤◌, IfOk, OnOk, length, map, filter, string_bytes, codes};
 ghost use Rattle.std.specs.Fmt.{is_char_start};
 ghost use Rattle.hm_location.specs.Shown.{front_shown, rest_shown};
@@ -11,7 +11,7 @@ use crate::shown::shown_line;
 use hm_base::{PAGE_LIMIT, Rule};
 use std::alloc::{AllocError, Global};
 
-/// The line that says where a page is refused, and why.
+/// The line with the place of the fault, the name of its rule and what the rule means.
 fn place_line(
     alloc: Global,
     name: &str,
@@ -26,7 +26,7 @@ fn place_line(
     format!(in alloc; "{name}:{line}:{column}: {rule_name}: {sentence}\n")
 }
 
-/// A byte as it is shown: `?` for a control character but a tab.
+/// A byte as it is printed: `?` for a control character other than TAB.
 fn shown_byte(byte: u8) -> u8
     ensures { result ≡ spec.shown_byte byte }
 {
@@ -37,7 +37,7 @@ fn shown_byte(byte: u8) -> u8
     }
 }
 
-/// Appends bytes as they are shown.
+/// Appends bytes as they are printed.
 fn push_shown(lines: &mut Vec<u8>, bytes: &[u8]) -> Result<(), AllocError>
     ensures { OnOk result (lines.new.items ≡ lines.old.items ++ map spec.shown_byte bytes.now) }
 {
@@ -47,14 +47,14 @@ fn push_shown(lines: &mut Vec<u8>, bytes: &[u8]) -> Result<(), AllocError>
     Ok(())
 }
 
-/// What stands below a character before the place.
+/// The byte below a character before the place: a TAB below a TAB, otherwise a space.
 fn caret_byte(byte: u8) -> u8
     ensures { result ≡ spec.caret_byte byte }
 {
     if byte == b'\t' { b'\t' } else { b' ' }
 }
 
-/// Appends what stands below each character.
+/// Appends the bytes below the characters of a line before the place.
 fn push_carets(lines: &mut Vec<u8>, front: &[u8]) -> Result<(), AllocError>
     ensures { OnOk result (lines.new.items ≡ lines.old.items ++ map spec.caret_byte (filter is_char_start front.now)) }
 {
@@ -66,7 +66,7 @@ fn push_carets(lines: &mut Vec<u8>, front: &[u8]) -> Result<(), AllocError>
     Ok(())
 }
 
-/// Appends the part of a line that is shown for a place, and a caret below the place.
+/// Appends the printed part of the line of a place, and a caret below the place.
 fn push_lines(lines: &mut Vec<u8>, page: &[u8], at: usize) -> Result<(), AllocError>
     requires { at ≤ length page.now }
     ensures { OnOk result (lines.new.items ≡ lines.old.items ++ (spec.page_line (front_shown page.now at) (rest_shown page.now at) ++ spec.caret_line (front_shown page.now at))) }
@@ -78,7 +78,7 @@ fn push_lines(lines: &mut Vec<u8>, page: &[u8], at: usize) -> Result<(), AllocEr
     lines.extend_from_slice(b"^\n")
 }
 
-/// A place of a page, or its end where that comes first.
+/// A place of a page, or the end of the page if that comes first. Both are bytes of the page.
 fn place_in(page: &[u8], at: u32) -> usize
     ensures place { IsPlaceIn page.now at result }
     ensures inside { result ≤ length page.now }
@@ -87,7 +87,7 @@ fn place_in(page: &[u8], at: u32) -> usize
     if at < page.len() { at } else { page.len() }
 }
 
-/// What is explained of a page that is refused by a rule at a byte: three lines.
+/// The three lines for a page that `rule` refuses at byte `at` of the page.
 fn explained(
     alloc: Global,
     name: &str,
@@ -104,8 +104,8 @@ fn explained(
     Ok(lines)
 }
 
-/// What is explained of a page that is refused by a rule at a byte. Of a page that is too long no more than its limit is looked
-/// at.
+/// The three lines for a page that `rule` refuses at byte `at` of the page. If the page is too long, only the bytes up
+/// to its limit are looked at.
 pub fn explained_page(
     alloc: Global,
     name: &str,
@@ -123,7 +123,7 @@ pub fn explained_page(
     }
 }
 
-/// The line of a page that isn't refused, of `page` bytes, whose tree can be written in `out` bytes.
+/// The line for a page that isn't refused. `page` is its length in bytes, `out` that of its tree, written shortest.
 pub fn settled_line(
     alloc: Global,
     name: &str,

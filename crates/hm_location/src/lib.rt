@@ -1,4 +1,4 @@
-//! Where a byte of a text is, as editors tell it, the part of its line that is shown, and the lines of `explain`.
+//! The line and column of a byte of a text, the part of its line that is printed, and the lines of `explain`.
 #![tactic(auto)]
 
 mod explanation;

@@ -3,24 +3,24 @@ ghost use Rattle.std.specs.Prelude.{◌≡◌, ◌+◌, ◌-◌, ◌<◌, ◌≤
 ghost use Rattle.std.specs.Fmt.{char_count, is_char_start};
 ghost use Rattle.hm_location.specs.Lines.{column_of, columns, ends_line, line_front, line_of, without_mark};
 
-/// A line and a column, both counted from 1.
+/// A line and a column, both counted from 1, as editors do.
 #[derive(Clone, Copy, PartialEq, Eq)]
 pub struct Location {
     pub line: usize,
-    /// How many characters of the line begin before the byte, plus 1; a byte order mark isn't counted.
+    /// The characters of the line that start before the byte, plus 1. A byte order mark isn't counted.
     pub column: usize,
 }
 
-/// The line of a byte, and where it begins.
+/// A line, and the byte of the text at which it starts.
 #[derive(Clone, Copy)]
 pub(crate) struct LineStart {
     pub(crate) number: usize,
     pub(crate) begin: usize,
 }
 
-/// Where the byte `at` of a text is, or its end. Lines end with LF, CR or CR LF.
+/// The line and column of byte `at` of a text, or of its end. Lines end with LF, CR or CR LF.
 ///
-/// Where the bytes before `at` are UTF-8, the column counts whole characters, whatever stands at `at`. A byte order mark
+/// If the bytes before `at` are UTF-8, the column counts whole characters, even if `at` is no UTF-8. A byte order mark
 /// isn't counted.
 pub fn location_of(text: &[u8], at: usize) -> Location
     requires { at ≤ length text.now }
@@ -34,7 +34,7 @@ pub fn location_of(text: &[u8], at: usize) -> Location
     }
 }
 
-/// The line of the byte `at`.
+/// The line of byte `at`.
 pub(crate) fn line_start(text: &[u8], at: usize) -> LineStart
     requires { at ≤ length text.now }
     ensures number { result.number ≡ line_of text.now at }
@@ -52,7 +52,7 @@ pub(crate) fn line_start(text: &[u8], at: usize) -> LineStart
     LineStart { number, begin }
 }
 
-/// Whether the byte at a place ends a line.
+/// Whether the byte at an index ends a line. The CR of a CR LF doesn't.
 fn ends_line(text: &[u8], index: usize) -> bool
     requires { index < length text.now }
     ensures { result ≡ ends_line (slice_index text.now index) (drop (index + 1) text.now) }
@@ -64,7 +64,7 @@ fn ends_line(text: &[u8], index: usize) -> bool
     }
 }
 
-/// How many columns the start of a line takes.
+/// The columns of the bytes at the start of a line.
 #[tactic(auto, unfolding(crate::specs::Lines::columns))]
 pub(crate) fn count_columns(bytes: &[u8]) -> usize
     ensures count { result ≡ columns bytes.now }
@@ -73,7 +73,7 @@ pub(crate) fn count_columns(bytes: &[u8]) -> usize
     count_chars(without_mark(bytes))
 }
 
-/// The begin of a line without a byte order mark.
+/// The start of a line without a byte order mark.
 pub fn without_mark(bytes: &[u8]) -> &[u8]
     ensures bytes { result.now ≡ without_mark bytes.now }
     ensures few { length result.now ≤ length bytes.now }
@@ -84,7 +84,7 @@ pub fn without_mark(bytes: &[u8]) -> &[u8]
     }
 }
 
-/// How many characters begin in a part of a text.
+/// How many characters start in some bytes.
 #[tactic(auto, using(crate::proofs::LineLaws::next_char, crate::proofs::LineLaws::no_chars))]
 pub(crate) fn count_chars(bytes: &[u8]) -> usize
     ensures count { result ≡ char_count bytes.now }

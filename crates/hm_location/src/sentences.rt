@@ -1,4 +1,4 @@
-//! What the rules of refusal mean.
+//! What each rule of refusal means.
 ghost use Rattle.std.specs.Prelude.{◌≡◌};
 ghost use Rattle.hm_location.specs.Explanations as spec;
 

@@ -1,27 +1,27 @@
-//! The line of a byte, as it is shown.
+//! The part of a line that is printed for a byte.
 ghost use Rattle.std.specs.Prelude.{◌≡◌, ◌++◌, ◌≤◌, drop, length, take};
 ghost use Rattle.hm_location.specs.declared.shown.TheConstants.{BEFORE, AFTER_PLACE};
 ghost use Rattle.hm_location.specs.Shown.{IsPart, front_shown, line_at, line_rest, rest_shown, shown_before, shown_after, shown_place};
 
 use crate::place::{is_char_start, line_start};
 
-/// The most bytes that are shown before a place.
+/// The most bytes that are printed before a place.
 pub const BEFORE: usize = 60;
 
-/// The most bytes that are shown from a place on.
+/// The most bytes that are printed from a place on.
 pub const AFTER_PLACE: usize = 40;
 
-/// A part of a line, and how many bytes of it stand before the place.
+/// A part of a line, and how many of its bytes are before the place.
 #[derive(Clone, Copy)]
 pub struct ShownLine<'a> {
     /// The bytes, without the end of the line.
     pub bytes: &'a [u8],
-    /// How many of the bytes stand before the place.
+    /// How many of the bytes are before the place.
     pub front: usize,
 }
 
-/// The part of the line of the byte `at` that is shown: at most 60 bytes before the place and 40 from it on, cut between
-/// characters. The LF of a CR LF is shown at its CR.
+/// The part of the line of byte `at` that is printed: at most 60 bytes before the place and 40 from it on, cut between
+/// characters. For the LF of a CR LF the place is its CR.
 pub fn shown_line(text: &[u8], at: usize) -> ShownLine<'_>
     requires { at ≤ length text.now }
     ensures bytes { result.bytes.now ≡ front_shown text.now at ++ rest_shown text.now at }
@@ -42,7 +42,7 @@ pub fn shown_line(text: &[u8], at: usize) -> ShownLine<'_>
     }
 }
 
-/// The place, or that of the CR before it where it is the LF of a CR LF.
+/// The place, or that of the CR if it is the LF of a CR LF.
 fn shown_place(text: &[u8], at: usize) -> usize
     requires { at ≤ length text.now }
     ensures place { result ≡ shown_place text.now at }
@@ -58,7 +58,7 @@ fn shown_place(text: &[u8], at: usize) -> usize
     }
 }
 
-/// How many bytes stand before the end of the line.
+/// How many bytes are before the end of the line.
 fn rest_len(text: &[u8]) -> usize
     ensures inside { result ≤ length text.now }
     ensures rest { take result text.now ≡ line_rest text.now }
@@ -70,7 +70,7 @@ fn rest_len(text: &[u8]) -> usize
     len
 }
 
-/// How many bytes before the place aren't shown.
+/// How many bytes at the start of `front`, the line before the place, aren't printed.
 fn cut_before(front: &[u8]) -> usize
     ensures inside { result ≤ length front.now }
     ensures shown { drop result front.now ≡ shown_before BEFORE front.now }
@@ -85,7 +85,7 @@ fn cut_before(front: &[u8]) -> usize
     from
 }
 
-/// How many bytes from the place on are shown.
+/// How many bytes from the place on are printed.
 fn cut_after(rest: &[u8]) -> usize
     ensures inside { result ≤ length rest.now }
     ensures shown { take result rest.now ≡ shown_after AFTER_PLACE rest.now }

@@ -1,10 +1,10 @@
-//! The blocks of generated pages.
+//! The blocks of a generated page.
 ghost use Rattle.std.specs.Prelude.{◌≡◌, ◌++◌, OnOk, string_bytes};
 ghost use Rattle.hm_measure_page.specs.Pages.{chosen, line};
 
 use hm_base::OutOfMemory;
 
-/// What a line of a generated page holds.
+/// What one line of a generated page holds.
 #[derive(Clone, Copy)]
 pub enum Block {
     Paragraph,
@@ -14,7 +14,7 @@ pub enum Block {
 }
 
 impl Block {
-    /// The block that a number of the sequence chooses, by the two bits above its lower sixteen.
+    /// The block that a number of the sequence chooses, by the two bits above its lowest sixteen.
     pub fn chosen_by(number: u32) -> Block
         ensures { result ≡ chosen number }
     {
@@ -26,7 +26,7 @@ impl Block {
         }
     }
 
-    /// Appends the block that shows `index`, and a line feed.
+    /// Appends the block, with `index` in it, and an LF.
     pub fn write(self, page: &mut String, index: u32) -> Result<(), OutOfMemory>
         ensures { OnOk result (string_bytes page.new ≡ string_bytes page.old ++ line self index) }
     {

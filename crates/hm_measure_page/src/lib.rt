@@ -1,4 +1,4 @@
-//! A page made from a number, of any size that is asked for: the page of `measure`.
+//! The page of `measure`: a page of any size, generated from a number.
 #![tactic(auto)]
 
 mod block;

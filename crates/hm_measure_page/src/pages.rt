@@ -6,10 +6,10 @@ use crate::block::Block;
 use hm_base::OutOfMemory;
 use std::alloc::Global;
 
-/// Each number of the sequence is below this one.
+/// All numbers of the sequence are below this one.
 const MODULUS: u32 = 1 << 31;
 
-/// The page of a number, with `size` blocks.
+/// The page of a number, with `size` blocks, one for each line.
 #[tactic(auto, unfolding(crate::specs::Pages::page))]
 pub fn page_of(alloc: Global, number: u32, size: u32) -> Result<String, OutOfMemory>
     ensures { IfOk result (λ text. string_bytes text ≡ page number size) }
@@ -23,7 +23,7 @@ pub fn page_of(alloc: Global, number: u32, size: u32) -> Result<String, OutOfMem
     Ok(text)
 }
 
-/// The number after this one in the sequence of a linear congruential generator modulo 2^31.
+/// The next number of the sequence: a linear congruential generator modulo 2^31.
 fn next(number: u32) -> u32
     ensures { result ≡ next number }
 {

@@ -27,7 +27,7 @@ opens_in_place n closed made path =
     else if not (stands_on n path) then refuses WrongParent
     else opens (element n (bytes_eq n svg)) closed made path
 
--- where the elements that yield to the tag are closed
+-- after the elements that the start tag closes are closed
 abbrev pub start_on : List ℕ → List Element → List Element → Moves
 start_on n closed path =
     if is_block_in_p n path then refuses BlockInParagraph

@@ -1,4 +1,4 @@
-//! An open element, with what is open at it.
+//! An open element, with flags for the elements around it.
 ghost use Rattle.std.specs.Prelude.{◌≡◌, List, [], ◌∷◌, true, not, ◌&&◌, ◌||◌, IfOk, bytes_eq};
 ghost use Rattle.hm_base.specs.Walks.{Element};
 ghost use Rattle.hm_elements.specs.Names.{p};
@@ -10,7 +10,7 @@ use hm_base::OutOfMemory;
 use hm_elements::{Kind, KnownName, Named, is_boundary, kind_of, same_name};
 use std::alloc::Global;
 
-/// The name of an open element. Only one that a tag gave and that isn't known takes memory.
+/// The name of an open element. Only an unknown name of a tag takes memory.
 #[derive(Drop)]
 pub(crate) enum ElementName {
     Html,
@@ -23,7 +23,7 @@ pub(crate) enum ElementName {
 }
 
 impl ElementName {
-    /// The name that a tag gives, copied only where it isn't known.
+    /// The name of a tag. It is copied only if it is unknown.
     pub(crate) fn given(alloc: Global, tag: Named<'_>) -> Result<ElementName, OutOfMemory>
         ensures { IfOk result (λ kept. name_of kept ≡ tag.entry.name.now) }
     {
@@ -33,6 +33,7 @@ impl ElementName {
         }
     }
 
+    /// The name.
     #[inline(always)]
     pub(crate) fn as_str(&self) -> &str
         ensures { result.now ≡ name_of self.now }
@@ -49,10 +50,11 @@ impl ElementName {
     }
 }
 
-/// What is open at an element, itself included, that some start tags must not meet; its kind; and whether it holds one text.
+/// What is open at an element, the element included, as far as start tags depend on it; and for the element alone its
+/// kind and whether it holds one text.
 #[derive(Clone, Copy)]
 pub(crate) struct ScopeFlags {
-    /// A `p` with no boundary above it.
+    /// A `p`, with no boundary between it and here.
     pub paragraph: bool,
     /// One of `h1` to `h6`.
     pub heading: bool,
@@ -60,14 +62,14 @@ pub(crate) struct ScopeFlags {
     pub button: bool,
     pub form: bool,
     pub nobr: bool,
-    /// What the tables say of the element's name, be it one of HTML or of SVG.
+    /// What the tables say about the element's name, whether it is one of HTML or of SVG.
     pub kind: Kind,
     /// The element is one of HTML that holds one text and nothing else.
     pub text: bool,
 }
 
 impl ScopeFlags {
-    /// The marks where nothing is open.
+    /// The flags if no element is open.
     pub(crate) fn none() -> ScopeFlags
         ensures { result ≡ marks_of [] }
     {
@@ -83,7 +85,7 @@ impl ScopeFlags {
         }
     }
 
-    /// The marks at an element that opens where these are.
+    /// The flags at an element that opens inside the one with these flags.
     #[inline(always)]
     #[tactic(auto, unfolding(hm_elements::specs::Tables::is_unnested, hm_elements::specs::Tables::unnested_names, hm_elements::specs::Names::is_among))]
     pub(crate) fn at(&self, name: Named<'_>, foreign: bool) -> ScopeFlags
@@ -102,7 +104,7 @@ impl ScopeFlags {
         }
     }
 
-    /// Whether a start tag of this name would close a paragraph that isn't the innermost element.
+    /// Whether a start tag of this name would have to close a paragraph that isn't the innermost element.
     #[tactic(auto, unfolding(hm_elements::specs::Paths::is_block_in_p))]
     pub(crate) fn is_block_in_p(&self, name: Named<'_>) -> bool
         ensures { (path : List Element) → self.now ≡ marks_of path → result ≡ paths.is_block_in_p name.entry.name.now path }
@@ -110,8 +112,8 @@ impl ScopeFlags {
         self.paragraph && name.kind().closes_p
     }
 
-    /// Whether an element of this name would stand in one of its own name that it may not stand in, or a heading in a heading
-    /// (HTML Standard, #the-element-pointers, #parsing-main-inbody).
+    /// Whether an element of this name would be inside one of its own name that doesn't allow this, or a heading inside
+    /// a heading (HTML Standard, #the-element-pointers, #parsing-main-inbody).
     pub(crate) fn is_nested(&self, name: Named<'_>) -> bool
         ensures { (path : List Element) → self.now ≡ marks_of path → result ≡ paths.is_nested name.entry.name.now path }
     {
@@ -123,7 +125,7 @@ impl ScopeFlags {
         }
     }
 
-    /// Whether an element of this name is open, which may not stand in one of its own name.
+    /// Whether an element of this name is open. The name is one that isn't allowed inside its own.
     fn is_unnested_open(&self, name: &str) -> bool
         requires { tables.is_unnested name.now ≡ true }
         ensures { (path : List Element) → self.now ≡ marks_of path → result ≡ paths.is_open name.now path }
@@ -137,7 +139,7 @@ impl ScopeFlags {
     }
 }
 
-/// Whether a `p` with no boundary above it is open at an element that opens where one is or isn't.
+/// Whether a `p` is open at an element, with no boundary between them. `outside` is the answer for its parent.
 #[inline(always)]
 fn is_paragraph_open(name: Named<'_>, foreign: bool, outside: bool) -> bool
     ensures { result ≡ (bytes_eq name.entry.name.now p || (not (tables.is_boundary name.entry.name.now foreign) && outside)) }
@@ -145,7 +147,8 @@ fn is_paragraph_open(name: Named<'_>, foreign: bool, outside: bool) -> bool
     same_name(name.name(), "p") || (outside && !bounds(name, foreign))
 }
 
-/// Whether a paragraph is never closed through an open element of this name, of HTML or of SVG.
+/// Whether no paragraph around an open element of this name is closed from inside it. `foreign` is true for an element
+/// of SVG.
 #[inline(always)]
 fn bounds(name: Named<'_>, foreign: bool) -> bool
     ensures { result ≡ tables.is_boundary name.entry.name.now foreign }
@@ -157,8 +160,8 @@ fn bounds(name: Named<'_>, foreign: bool) -> bool
     }
 }
 
-/// Whether an element named `one`, which may not stand in one of its own name, is open at an element that opens where
-/// it is or isn't.
+/// Whether an element named `one` is open at an element. `outside` is the answer for its parent. `one` isn't allowed
+/// inside its own.
 #[inline(always)]
 fn is_open(name: Named<'_>, one: &str, outside: bool) -> bool
     requires one { tables.is_unnested one.now ≡ true }
@@ -185,7 +188,7 @@ pub(crate) struct OpenElement {
 }
 
 impl OpenElement {
-    /// The name with its kind, which the marks keep.
+    /// The name with its kind from the flags.
     #[inline(always)]
     pub(crate) fn named(&self) -> Named<'_>
         requires { KeepsKind self.now }

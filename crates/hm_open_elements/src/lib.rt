@@ -1,4 +1,4 @@
-//! The open elements, and what a start tag or an end tag does to them.
+//! The stack of open elements, and what a start tag or an end tag does to it.
 #![tactic(auto)]
 
 mod element;

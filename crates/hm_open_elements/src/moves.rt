@@ -1,4 +1,4 @@
-//! What a tag does, or why it is refused.
+//! What a tag does to the open elements, or why it is refused.
 ghost use Rattle.std.specs.Prelude.{◌≡◌, length, map};
 ghost use Rattle.hm_elements.specs.Names.{table};
 ghost use Rattle.hm_elements.specs.Nesting.{made_under};
@@ -10,7 +10,8 @@ use hm_base::{OutOfMemory, Rule};
 use hm_elements::{is_cell, is_section, same_name};
 use std::alloc::AllocError;
 
-/// The elements that a start tag makes before its own opens (HTML Standard, #parsing-main-intable, #parsing-main-intbody).
+/// The elements that a start tag makes before its own opens (HTML Standard, #parsing-main-intable,
+/// #parsing-main-intbody).
 #[derive(Clone, Copy, Debug, PartialEq, Eq)]
 pub enum Made {
     Nothing,
@@ -25,7 +26,7 @@ pub enum Made {
 }
 
 impl Made {
-    /// What is made under this parent before an element of that name opens (#parsing-main-intable).
+    /// The elements that are made in this parent before an element of that name opens (#parsing-main-intable).
     #[tactic(auto, unfolding(crate::specs::Answers::elements_of, hm_elements::specs::Nesting::made_under))]
     pub(crate) fn under(parent: &str, name: &str) -> Made
         ensures { elements_of result ≡ map html_element (made_under parent.now name.now) }
@@ -39,7 +40,7 @@ impl Made {
         }
     }
 
-    /// What is made in a table.
+    /// The elements that are made in a table before an element of that name opens.
     #[tactic(auto, unfolding(hm_elements::specs::Nesting::made_under))]
     fn in_table(name: &str) -> Made
         ensures { elements_of result ≡ map html_element (made_under table name.now) }
@@ -67,19 +68,19 @@ impl Made {
     }
 }
 
-/// What a tag does to the open elements: how many close, and which are made then.
+/// What a tag does to the open elements: how many it closes, and which it makes then.
 #[derive(Clone, Copy, PartialEq, Eq)]
 pub struct Moves {
     pub closes: u32,
     pub made: Made,
 }
 
-/// Why a tag does nothing.
+/// Why a tag isn't taken.
 #[derive(Clone, Copy, PartialEq, Eq)]
 pub enum SettleFault {
-    /// The page is refused by this rule.
+    /// This rule refuses the page.
     Rule { rule: Rule },
-    /// Memory was refused.
+    /// An allocation failed.
     OutOfMemory,
 }
 

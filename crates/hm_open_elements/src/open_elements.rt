@@ -1,4 +1,4 @@
-//! The open elements of any tree.
+//! The open elements of any tree, in a body or not.
 ghost use Rattle.std.specs.Prelude.{◌≡◌, ◌-◌, ◌||◌, [], ◌∷◌, length, take, MatchOption, IfSome, OnOk, OnErr};
 ghost use Rattle.hm_elements.specs.Names.{head, is_among};
 ghost use Rattle.hm_elements.specs.Nesting.{is_name};
@@ -15,7 +15,7 @@ use hm_elements::{Named, is_blank_parent, is_closed_by_start, is_raw, may_stand,
 use std::alloc::Global;
 use std::marker::Model;
 
-/// The open elements of any tree, from its first element on. Contracts see the list of them, innermost first.
+/// The open elements of any tree, in a body or not. Contracts see the list of them, innermost first.
 #[derive(Drop)]
 pub struct OpenElements {
     elements: Vec<OpenElement>,
@@ -35,7 +35,7 @@ impl Model for OpenElements {
 }
 
 impl OpenElements {
-    /// None. It allocates nothing until an element opens.
+    /// No element is open. It allocates nothing until one opens.
     pub fn new(alloc: Global) -> OpenElements
         ensures { result ≡ [] }
     {
@@ -51,7 +51,7 @@ impl OpenElements {
         self.elements.len()
     }
 
-    /// The name of the innermost element, and no bytes where none is open.
+    /// The name of the innermost element, or no bytes if none is open.
     pub fn current(&self) -> &str
         ensures { result.now ≡ paths.current self.now }
     {
@@ -88,14 +88,14 @@ impl OpenElements {
         }
     }
 
-    /// Whether a text directly in the innermost element is only whitespace.
+    /// Whether only whitespace is allowed as text directly in the innermost element.
     pub fn is_in_blank(&self) -> bool
         ensures { result ≡ paths.is_in_blank self.now }
     {
         is_in_blank(&self.elements)
     }
 
-    /// Whether an HTML element of this name may stand in the innermost element.
+    /// Whether an HTML element of this name is allowed in the innermost element.
     pub fn holds(&self, tag: Named<'_>) -> bool
         ensures { result ≡ stands_on tag.entry.name.now self.now }
     {
@@ -105,7 +105,7 @@ impl OpenElements {
         }
     }
 
-    /// Whether the innermost element closes before the start tag of an HTML element of this name.
+    /// Whether the start tag of an HTML element of this name closes the innermost element.
     pub fn is_closed_by_start_of(&self, tag: Named<'_>) -> bool
         ensures { result ≡ head_yields self.now tag.entry.name.now }
     {
@@ -115,8 +115,8 @@ impl OpenElements {
         }
     }
 
-    /// Whether a start tag of this name would close a paragraph that isn't the innermost element, or its element would
-    /// stand in one of its own kind.
+    /// Whether a start tag of this name would have to close a paragraph that isn't the innermost element, or its
+    /// element would be inside one of its own kind that doesn't allow this.
     pub fn bars(&self, tag: Named<'_>) -> bool
         ensures { result ≡ (is_block_in_p tag.entry.name.now self.now || is_nested tag.entry.name.now self.now) }
     {
@@ -124,7 +124,7 @@ impl OpenElements {
         marks.is_block_in_p(tag) || marks.is_nested(tag)
     }
 
-    /// Opens an element of this name. Memory is taken for it, and for a name that isn't known.
+    /// Opens an element of this name. It takes memory for the element, and for an unknown name.
     pub fn open(&mut self, alloc: Global, tag: Named<'_>, foreign: bool) -> Result<(), OutOfMemory>
         ensures ok { OnOk result (self.new ≡ element tag.entry.name.now foreign ∷ self.old) }
         ensures err { OnErr result (self.new ≡ self.old) }
@@ -147,7 +147,7 @@ impl OpenElements {
     }
 }
 
-/// Whether a text directly in the innermost of these is only whitespace.
+/// Whether only whitespace is allowed as text directly in the innermost of these elements.
 #[tactic(auto, unfolding(hm_elements::specs::Paths::is_in_blank))]
 pub(crate) fn is_in_blank(elements: &[OpenElement]) -> bool
     requires { AreMarked [] elements.now }
@@ -163,8 +163,8 @@ pub(crate) fn is_in_blank(elements: &[OpenElement]) -> bool
     }
 }
 
-/// Whether a text directly in the HTML element is only whitespace. A name is compared only where it is one of an element that
-/// takes only children of certain names.
+/// Whether only whitespace is allowed as text directly in the HTML element. The name is compared only for an element
+/// that allows only children of certain names.
 #[tactic(auto, using(crate::proofs::Blank::never_blank))]
 fn takes_only_blank(tag: Named<'_>) -> bool
     ensures { result ≡ is_among tag.entry.name.now blank_parents }
@@ -172,7 +172,7 @@ fn takes_only_blank(tag: Named<'_>) -> bool
     tag.kind().has_children && is_blank_parent(tag.name())
 }
 
-/// The innermost of these.
+/// The innermost of these elements.
 #[inline(always)]
 fn innermost(elements: &[OpenElement]) -> Option<&OpenElement>
     ensures path { MatchOption result (path_of elements.now ≡ [])
@@ -185,7 +185,7 @@ fn innermost(elements: &[OpenElement]) -> Option<&OpenElement>
     Some(&elements[elements.len() - 1])
 }
 
-/// The name of the element around the innermost one.
+/// The name of the parent of the innermost element.
 fn parent(elements: &[OpenElement]) -> Option<&str>
     ensures { text_of result ≡ current_name (outer (path_of elements.now)) }
 {
@@ -198,6 +198,7 @@ fn parent(elements: &[OpenElement]) -> Option<&str>
     }
 }
 
+/// Whether there is a name and it is `head`.
 fn is_head(name: Option<&str>) -> bool
     ensures { result ≡ is_name head (text_of name.entry) }
 {

@@ -1,4 +1,4 @@
-//! The open elements of a page in its body.
+//! The open elements of a page, in its body.
 ghost use Rattle.std.specs.Prelude.{◌≡◌, ◌≢◌, ◌↔◌, ◌||◌, ◌+◌, ◌<◌, ◌≤◌, [], ◌∷◌, ◌++◌, length, map, reverse, take, slice_get, vec_len, vec_capacity, true, Some, Err, IfOk, OnErr, bytes_eq, if◌then◌else◌, Bool};
 ghost use Rattle.hm_base.specs.declared.limits.TheConstants.{DEPTH_LIMIT};
 ghost use Rattle.hm_base.specs.declared.rules.Rule.{Rule};
@@ -20,8 +20,8 @@ use hm_elements::{Kind, Named, kind_of};
 use std::alloc::Global;
 use std::marker::Model;
 
-/// The open elements of a page in its body (HTML Standard, #the-stack-of-open-elements). Contracts see the list of them,
-/// innermost first.
+/// The open elements of a page, in its body (HTML Standard, #the-stack-of-open-elements). Contracts see the list of
+/// them, innermost first.
 #[derive(Drop)]
 pub struct Path {
     elements: Vec<OpenElement>,
@@ -41,7 +41,7 @@ impl Model for Path {
 }
 
 impl Path {
-    /// `html` and `body`, with room for as many elements as may be open: later only names take memory.
+    /// `html` and `body`, with room for as many elements as may be open, so that later only names take memory.
     pub fn new(alloc: Global) -> Result<Path, OutOfMemory>
         ensures { IfOk result (λ path. path ≡ html_element body ∷ html_element html ∷ []) }
     {
@@ -51,7 +51,7 @@ impl Path {
         Ok(Path { elements })
     }
 
-    /// How many elements are open, at most [`hm_base::DEPTH_LIMIT`]. The outermost are `html` and `body`, and the names
+    /// How many elements are open, at most [`hm_base::DEPTH_LIMIT`]. The outermost two are `html` and `body`. All names
     /// are UTF-8.
     pub fn len(&self) -> u32
         ensures len { result ≡ length self.now }
@@ -62,7 +62,7 @@ impl Path {
         self.elements.len() as u32
     }
 
-    /// The name of element `i`, counted from `html`.
+    /// The name of element `i`. `html` is element 0.
     pub fn name(&self, i: u32) -> &str
         requires { i < length self.now }
         ensures { slice_get (reverse (map (λ e. e.name) self.now)) i ≡ Some result.now }
@@ -70,7 +70,7 @@ impl Path {
         self.elements[i as usize].name.as_str()
     }
 
-    /// Whether element `i`, counted from `html`, is one of SVG.
+    /// Whether element `i` is one of SVG. `html` is element 0.
     pub fn foreign(&self, i: u32) -> bool
         requires { i < length self.now }
         ensures { slice_get (reverse (map (λ e. e.foreign) self.now)) i ≡ Some result }
@@ -99,7 +99,7 @@ impl Path {
         self.elements[self.elements.len() - 1].marks.text
     }
 
-    /// Whether a text directly in the innermost element is only whitespace.
+    /// Whether only whitespace is allowed as text directly in the innermost element.
     pub fn is_in_blank(&self) -> bool
         ensures { result ≡ paths.is_in_blank self.now }
     {
@@ -107,9 +107,9 @@ impl Path {
     }
 
     /// Takes a start tag of this name (HTML Standard, #parsing-main-inbody and following, #parsing-main-inforeign):
-    /// closes the elements that yield to it, makes those that it implies, and opens its own. That is an element of SVG
-    /// where `foreign` is set. A void element closes at once. An `svg` that is to close at once is ended by
-    /// [`Path::end`]. Memory is taken only for a name that stays open; after a fault the path is unchanged.
+    /// closes the elements that it closes, makes those that it implies, and opens its own, which is one of SVG if
+    /// `foreign` is set. A void element isn't opened. An `svg` with `/>` is: the caller closes it by [`Path::end`].
+    /// Only an unknown name that stays open takes memory. After a fault nothing has changed.
     pub fn start(&mut self, name: &str, foreign: bool) -> Result<Moves, SettleFault>
         requires { foreign ≡ (paths.is_in_svg self.old || bytes_eq name.now svg) }
         ensures ok { IfOk result (λ moves. IsStarted (start_moves name.now self.old) moves self.new) }
@@ -119,7 +119,8 @@ impl Path {
         self.start_known(Named::of(name), foreign)
     }
 
-    /// Takes a start tag as [`Path::start`] does, where its name was looked up. No memory is taken for a known name.
+    /// Takes a start tag as [`Path::start`] does, with a name that was looked up. For a known name nothing is
+    /// allocated.
     pub fn start_known(&mut self, tag: Named<'_>, foreign: bool) -> Result<Moves, SettleFault>
         requires { foreign ≡ (paths.is_in_svg self.old || bytes_eq tag.name.now svg) }
         ensures ok { IfOk result (λ moves. IsStarted (start_moves tag.entry.name.now self.old) moves self.new) }
@@ -136,8 +137,8 @@ impl Path {
         })
     }
 
-    /// Takes an end tag of this name (#parsing-main-inbody): closes the elements whose ends it implies and its own, and makes
-    /// nothing. It takes no memory; after a fault the path is unchanged.
+    /// Takes an end tag of this name (#parsing-main-inbody): closes the elements whose ends it implies, and its own. It
+    /// makes none and allocates nothing. After a fault nothing has changed.
     #[inline(always)]
     pub fn end(&mut self, name: &str) -> Result<Moves, SettleFault>
         requires body { name.now ≢ body }
@@ -157,7 +158,7 @@ impl Path {
     }
 }
 
-/// The name that stays open, if any.
+/// The name of the element, if it stays open.
 fn kept_name(
     alloc: Global,
     tag: Named<'_>,
@@ -173,7 +174,7 @@ fn kept_name(
     }
 }
 
-/// Closes all but the elements that stay, and opens those that are made and one more of this kind, if any.
+/// Closes all but the first `plan.left` elements, then opens those that are made and the one named `opened`, if any.
 fn carry_out(
     elements: &mut Vec<OpenElement>,
     plan: MovePlan,
@@ -215,7 +216,7 @@ fn make(elements: &mut Vec<OpenElement>, made: Made)
     }
 }
 
-/// Opens an element of HTML that no tag named, for which there is room.
+/// Opens an element of HTML that no tag named. There is room for it.
 fn push_made(elements: &mut Vec<OpenElement>, name: ElementName)
     requires marked { AreMarked [] elements.old.items }
     requires room { vec_len elements.old < vec_capacity elements.old }
@@ -226,7 +227,7 @@ fn push_made(elements: &mut Vec<OpenElement>, name: ElementName)
     push(elements, name, &kind, false);
 }
 
-/// Opens an element of this kind, for which there is room.
+/// Opens an element of this kind. There is room for it.
 #[inline(always)]
 fn push(elements: &mut Vec<OpenElement>, name: ElementName, kind: &Kind, foreign: bool)
     requires marked { AreMarked [] elements.old.items }

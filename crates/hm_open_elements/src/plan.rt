@@ -1,4 +1,4 @@
-//! What a tag does to open elements, or why it is refused, before anything changes.
+//! What a tag does to the open elements, or why it is refused, before anything changes.
 ghost use Rattle.std.specs.Prelude.{◌≡◌, ◌≢◌, ◌+◌, ◌<◌, ◌≤◌, List, [], ◌∷◌, ◌++◌, length, take, IfOk, IfErr, Bool, true, false};
 ghost use Rattle.hm_base.specs.Walks.{Element};
 ghost use Rattle.hm_base.specs.declared.limits.TheConstants.{DEPTH_LIMIT};
@@ -19,20 +19,20 @@ use hm_elements::{
     svg_name,
 };
 
-/// How many elements may be open.
+/// The most elements that may be open.
 pub(crate) const DEEPEST: usize = DEPTH_LIMIT as usize;
 
 /// What a start tag does.
 #[derive(Clone, Copy)]
 pub(crate) struct MovePlan {
-    /// How many open elements stay.
+    /// How many of the open elements stay.
     pub left: usize,
     pub made: Made,
-    /// Whether the element closes at once.
+    /// Whether the element is void, so that it isn't opened.
     pub is_void: bool,
 }
 
-/// What is open at the innermost of these.
+/// The flags at the innermost of these elements.
 #[inline(always)]
 pub(crate) fn marks(elements: &[OpenElement]) -> ScopeFlags
     requires { AreMarked [] elements.now }
@@ -44,7 +44,7 @@ pub(crate) fn marks(elements: &[OpenElement]) -> ScopeFlags
     }
 }
 
-/// What is open at an element of this name that opens on these.
+/// The flags at an element of this name that opens inside the innermost of these.
 #[inline(always)]
 pub(crate) fn marks_on(elements: &[OpenElement], name: Named<'_>, foreign: bool) -> ScopeFlags
     requires { AreMarked [] elements.now }
@@ -67,7 +67,7 @@ pub(crate) fn plan_start(elements: &[OpenElement], tag: Named<'_>) -> Result<Mov
     }
 }
 
-/// What a start tag does in the element `current` of SVG (HTML Standard, #parsing-main-inforeign).
+/// What a start tag does if the innermost element is `current`, one of SVG (HTML Standard, #parsing-main-inforeign).
 fn plan_in_svg(elements: &[OpenElement], current: &str, name: &str) -> Result<MovePlan, Rule>
     requires path { IsPath elements.now }
     requires svg { paths.is_in_svg (path_of elements.now) ≡ true }
@@ -91,7 +91,7 @@ fn plan_in_svg(elements: &[OpenElement], current: &str, name: &str) -> Result<Mo
     })
 }
 
-/// What a start tag does in an element of HTML.
+/// What a start tag does if the innermost element is one of HTML.
 fn plan_in_html(elements: &[OpenElement], tag: Named<'_>) -> Result<MovePlan, Rule>
     requires path { IsPath elements.now }
     requires html { paths.is_in_svg (path_of elements.now) ≡ false }
@@ -114,7 +114,7 @@ fn plan_in_html(elements: &[OpenElement], tag: Named<'_>) -> Result<MovePlan, Ru
     })
 }
 
-/// How many elements stay where those are closed that yield to the start tag.
+/// How many elements the start tag leaves open.
 fn left_by_start(elements: &[OpenElement], tag: Named<'_>) -> usize
     requires { IsPath elements.now }
     ensures least { 2 ≤ result }
@@ -128,8 +128,9 @@ fn left_by_start(elements: &[OpenElement], tag: Named<'_>) -> usize
     left
 }
 
-/// Whether the open element `current` closes before the start tag of an HTML element `next`. Of the parts of a table only
-/// `colgroup` closes before what isn't one, and a row doesn't close before its cells: that is told before rows are looked up.
+/// Whether the start tag of an HTML element `next` closes the open element `current`. Of the parts of a table only
+/// `colgroup` is closed by other elements' tags, and no row by the tags of its cells: both are decided before the table
+/// is searched.
 #[inline(always)]
 #[tactic(auto, using(crate::proofs::Yields::bound_yields, crate::proofs::Yields::row_stays))]
 fn closes_before(current: Named<'_>, next: Named<'_>) -> bool
@@ -147,7 +148,7 @@ fn closes_before(current: Named<'_>, next: Named<'_>) -> bool
     is_closed_by_start(current, next)
 }
 
-/// What is made where the start tag's element opens on these, or why it doesn't.
+/// The elements that are made before the start tag's element opens inside these, or why it doesn't open.
 fn made_before(elements: &[OpenElement], tag: Named<'_>) -> Result<Made, Rule>
     requires { IsPath elements.now }
     ensures opens { (closed : List Element) → start_on tag.entry.name.now closed (path_of elements.now) ≡ opened tag.entry.name.now closed (path_of elements.now) result }
@@ -174,7 +175,7 @@ fn made_before(elements: &[OpenElement], tag: Named<'_>) -> Result<Made, Rule>
     Ok(made)
 }
 
-/// Whether the element may stand on these where those are made.
+/// Whether the element is allowed inside these elements after those in `made` are open.
 fn stands(elements: &[OpenElement], made: Made, tag: Named<'_>) -> bool
     requires { IsPath elements.now }
     ensures { result ≡ stands_on tag.entry.name.now (elements_of made ++ path_of elements.now) }
@@ -193,7 +194,7 @@ fn stands(elements: &[OpenElement], made: Made, tag: Named<'_>) -> bool
     }
 }
 
-/// How many elements stay after an end tag of this name.
+/// How many elements an end tag of this name leaves open.
 #[inline(always)]
 pub(crate) fn left_by_end(elements: &[OpenElement], name: &str) -> Result<usize, Rule>
     requires path { IsPath elements.now }
@@ -216,7 +217,7 @@ pub(crate) fn left_by_end(elements: &[OpenElement], name: &str) -> Result<usize,
     }
 }
 
-/// How many elements stay where those are closed that the end tag implies.
+/// How many elements are open after all ends that the end tag implies.
 fn reached_by_end(elements: &[OpenElement], name: &str) -> usize
     requires { IsPath elements.now }
     ensures { IsReached elements.now name.now result }
@@ -228,7 +229,7 @@ fn reached_by_end(elements: &[OpenElement], name: &str) -> usize
     }
 }
 
-/// How many elements stay where those are closed that end with an end tag of another name
+/// How many elements are open after all ends that an end tag of another name implies
 /// (#closing-elements-that-have-implied-end-tags).
 fn left_by_implied_ends(elements: &[OpenElement], name: &str) -> usize
     requires { IsPath elements.now }
@@ -243,14 +244,14 @@ fn left_by_implied_ends(elements: &[OpenElement], name: &str) -> usize
     left
 }
 
-/// Whether the open element `current` closes with an end tag of another name.
+/// Whether an end tag of another name closes the open element `current`.
 fn is_closed_by_end(current: Named<'_>, ending: &str) -> bool
     ensures { (foreign : Bool) → result ≡ is_closed_by_end_of ending.now (record { name = current.entry.name.now; foreign = foreign }) }
 {
     !same_name(current.name(), ending) && ends_with(current, ending)
 }
 
-/// Whether an element of this name is open. Only a page that is refused asks.
+/// Whether an element of this name is open. Called only for a page that is refused.
 fn is_open(elements: &[OpenElement], name: &str) -> bool
     ensures { result ≡ paths.is_open name.now (path_of elements.now) }
 {

@@ -1,4 +1,4 @@
-//! Attributes that say nothing.
+//! The rewrites of attributes: some are dropped, some lose their values.
 ghost use Rattle.std.specs.Prelude.{◌≡◌, [], ◌∷◌, length, flat_map, false, true};
 ghost use Rattle.hm_base.specs.Bytes.{all_pass};
 ghost use Rattle.hm_base.specs.Bytes as bytes;
@@ -14,7 +14,8 @@ use hm_base::{TreeOptions, is_space};
 use hm_elements::{is_boolean, is_redundant, says_nothing_blank};
 use hm_tree::{AttrsView, Editor, EventView};
 
-// Whether each attribute of an HTML element of this name stays as it is. Where the answer is no, one may not.
+/// Whether each attribute of an HTML element of this name stays unchanged. True is always right; false only means that
+/// one may change.
 pub(crate) fn stay(options: &TreeOptions, element: &str, attrs: &AttrsView<'_>) -> bool
     ensures { result ≡ true → flat_map (attribute_pass options.now element.now) (attributes_shown attrs.now) ≡ attributes_shown attrs.now }
 {
@@ -27,23 +28,23 @@ pub(crate) fn stay(options: &TreeOptions, element: &str, attrs: &AttrsView<'_>) 
     true
 }
 
-// Whether an attribute may change.
+/// Whether this attribute of an HTML element may change.
 fn changes(options: &TreeOptions, element: &str, name: &str, value: &str) -> bool
     ensures { result ≡ false → attribute_pass options.now element.now (record { name = name.now; value = value.now }) ≡ record { name = name.now; value = value.now } ∷ [] }
 {
     (options.booleans && is_boolean(name)) || is_dropped(options, element, name, value)
 }
 
-// What becomes of an attribute.
+/// What happens to an attribute.
 #[derive(Clone, Copy)]
 enum Fate {
     Stays,
-    // It loses its value.
+    /// It loses its value.
     Emptied,
     LeftOut,
 }
 
-// What becomes of attribute `at` of the next event, the start of an HTML element.
+/// What happens to attribute `at` of the next event, the start of an HTML element.
 fn fate_of(editor: &Editor, options: &TreeOptions, at: u32) -> Fate
     requires { HasAttribute editor.now.left at }
     ensures { IsFate options.now editor.now.left at result }
@@ -62,7 +63,7 @@ fn fate_of(editor: &Editor, options: &TreeOptions, at: u32) -> Fate
     }
 }
 
-// Makes of attribute `at` of the next event, the start of an HTML element, what it becomes.
+/// Changes attribute `at` of the next event, the start of an HTML element.
 fn change_attribute(editor: &mut Editor, options: &TreeOptions, at: u32)
     requires { HasAttribute editor.old.left at }
     ensures done { editor.new.done ≡ editor.old.done }
@@ -75,7 +76,7 @@ fn change_attribute(editor: &mut Editor, options: &TreeOptions, at: u32)
     }
 }
 
-// Whether the next event is the start of an HTML element of which an attribute may change.
+/// Whether the next event is the start of an HTML element with an attribute that may change.
 fn may_change(editor: &Editor, options: &TreeOptions) -> bool
     requires { begins_start editor.now.left ≡ true }
     ensures html { result ≡ true → begins_html_start editor.now.left ≡ true }
@@ -91,7 +92,7 @@ fn may_change(editor: &Editor, options: &TreeOptions) -> bool
     }
 }
 
-// How many attributes the next event has.
+/// How many attributes the next event has.
 fn attribute_count(editor: &Editor) -> u32
     requires { begins_start editor.now.left ≡ true }
     ensures { result ≡ length (first_attributes editor.now.left) }
@@ -102,7 +103,7 @@ fn attribute_count(editor: &Editor) -> u32
     }
 }
 
-// Changes the attributes of the next event, the start of an HTML element, from the last one to the first.
+/// Changes the attributes of the next event, the start of an HTML element, from the last to the first.
 fn change_attributes(editor: &mut Editor, options: &TreeOptions)
     requires { begins_start editor.old.left ≡ true }
     ensures done { editor.new.done ≡ editor.old.done }
@@ -113,7 +114,7 @@ fn change_attributes(editor: &mut Editor, options: &TreeOptions)
     }
 }
 
-// Changes the next event, a start.
+/// Changes the next event, a start.
 pub(crate) fn change_start(editor: &mut Editor, options: &TreeOptions)
     requires { begins_start editor.old.left ≡ true }
     ensures done { editor.new.done ≡ editor.old.done }
@@ -124,6 +125,7 @@ pub(crate) fn change_start(editor: &mut Editor, options: &TreeOptions)
     }
 }
 
+/// Whether the options drop this attribute.
 fn is_dropped(options: &TreeOptions, element: &str, name: &str, value: &str) -> bool
     ensures { result ≡ passes.is_dropped options.now element.now (record { name = name.now; value = value.now }) }
 {
@@ -131,6 +133,7 @@ fn is_dropped(options: &TreeOptions, element: &str, name: &str, value: &str) -> 
         || (options.redundant && is_redundant(element, name, value))
 }
 
+/// The value that the options leave to this attribute.
 fn left_value<'t>(options: &TreeOptions, name: &str, value: &'t str) -> &'t str
     ensures { record { name = name.now; value = result.now } ≡ passes.valued options.now (record { name = name.now; value = value.now }) }
 {
@@ -141,7 +144,7 @@ fn left_value<'t>(options: &TreeOptions, name: &str, value: &'t str) -> &'t str
     }
 }
 
-// Whether a class, an id or a style holds nothing but whitespace.
+/// Whether this is a `class`, an `id` or a `style` with only whitespace in it.
 #[tactic(auto, unfolding(crate::specs::Rewrites::is_empty))]
 fn is_empty(name: &str, value: &str) -> bool
     ensures { result ≡ rewrites.is_empty (record { name = name.now; value = value.now }) }
@@ -149,6 +152,7 @@ fn is_empty(name: &str, value: &str) -> bool
     says_nothing_blank(name) && is_blank(value)
 }
 
+/// Whether a text is only whitespace.
 fn is_blank(text: &str) -> bool
     ensures { result ≡ all_pass bytes.is_space text.now }
 {

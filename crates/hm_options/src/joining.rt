@@ -1,4 +1,4 @@
-//! Texts that touch once the comments between them are left out.
+//! Joins texts that become neighbours when the comments between them are left out.
 ghost use Rattle.std.specs.Prelude.{◌≡◌, ◌<◌, ◌≤◌, [], ◌∷◌, ◌++◌, true, length, take, drop, string_bytes, OnOk};
 ghost use Rattle.hm_base.specs.Walks.{begins_text};
 ghost use Rattle.hm_options.specs.Passing.{begins_loose, loose_count, text_in, texts_of, with_touching};
@@ -10,13 +10,14 @@ ghost use Rattle.hm_tree.specs.Views.{event_of};
 use hm_base::OutOfMemory;
 use hm_tree::{Editor, EventView};
 
+/// Whether an event is a text or a comment.
 fn is_loose(event: &EventView<'_>) -> bool
     ensures { result ≡ edits.is_loose (event_of event.now) }
 {
     matches!(event, EventView::Text { .. } | EventView::Comment { .. })
 }
 
-// Whether a text or a comment stands `count` events after the next one.
+/// Whether the event that is `count` events after the next one is a text or a comment.
 fn is_loose_at(editor: &Editor, count: u32) -> bool
     requires { 0 < length editor.now.left }
     ensures { result ≡ begins_loose (drop count editor.now.left) }
@@ -27,7 +28,7 @@ fn is_loose_at(editor: &Editor, count: u32) -> bool
     }
 }
 
-// How many texts and comments come directly after the next event.
+/// How many texts and comments follow directly after the next event.
 fn loose_after(editor: &Editor) -> u32
     requires { 0 < length editor.now.left }
     ensures { result ≡ loose_count (without_first editor.now.left) }
@@ -41,7 +42,7 @@ fn loose_after(editor: &Editor) -> u32
     left - 1
 }
 
-// The bytes of an event that is a text, and none of another one.
+/// The bytes of a text. Another event has none.
 fn text_of<'t>(event: &EventView<'t>) -> &'t str
     ensures { result.now ≡ text_in (event_of event.now) }
 {
@@ -51,7 +52,7 @@ fn text_of<'t>(event: &EventView<'t>) -> &'t str
     }
 }
 
-// The bytes of the text that stands `count` events after the next one, and none where another event does.
+/// The bytes of the text that is `count` events after the next one. Another event has none.
 fn text_at(editor: &Editor, count: u32) -> &str
     requires { 0 < length editor.now.left }
     ensures { result.now ≡ texts_of (take 1 (drop count editor.now.left)) }
@@ -62,7 +63,7 @@ fn text_at(editor: &Editor, count: u32) -> &str
     }
 }
 
-// Puts the bytes of the texts among the next `count` events into a text.
+/// Appends the bytes of all texts among the next `count` events to `texts`.
 fn gather(editor: &Editor, count: u32, texts: &mut String) -> Result<(), OutOfMemory>
     requires { 0 < length editor.now.left }
     ensures { OnOk result (string_bytes texts.new ≡ texts_of (take count editor.now.left)) }
@@ -74,7 +75,7 @@ fn gather(editor: &Editor, count: u32, texts: &mut String) -> Result<(), OutOfMe
     Ok(())
 }
 
-// Joins the next event, a text, with the texts that touch it once the comments between them are left out.
+/// Joins the next event, a text, with the texts that become its neighbours when the comments between them are left out.
 pub(crate) fn join_next(editor: &mut Editor, scratch: &mut String) -> Result<(), OutOfMemory>
     requires text { begins_text editor.old.left ≡ true }
     requires walk { IsWalk (editor.old.done ++ editor.old.left) }

@@ -1,7 +1,7 @@
-//! The law of the tree options. The call does nothing: its contract is the law.
+//! The law of the tree options. The function does nothing: its contract is the law.
 ghost use Rattle.hm_options.specs.Laws.{RewrittenIsSettled};
 
-/// A settled walk stays settled whatever the options ask for.
+/// A settled walk stays settled, whatever the options are.
 pub fn rewritten_is_settled()
     ensures { RewrittenIsSettled }
 {}

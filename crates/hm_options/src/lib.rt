@@ -1,4 +1,5 @@
-//! The tree that the options ask for: six rewrites in their order, in place. That of whitespace makes a pass of its own.
+//! Rewrites a tree by the options: six rewrites in their order, in place. The rewrite of whitespace is a pass of its
+//! own.
 #![tactic(auto)]
 
 mod attributes;

@@ -1,4 +1,4 @@
-//! The rewrites that change single events or leave them out, in one pass and in place.
+//! The rewrites that change or leave out single events, in one pass and in place.
 ghost use Rattle.std.specs.Prelude.{◌≡◌, ◌<◌, [], ◌∷◌, ◌++◌, ◌&&◌, false, true, length, IfOk, OnOk};
 ghost use Rattle.hm_base.specs.Walks.{begins_comment, begins_text};
 ghost use Rattle.hm_options.specs.Passes.{passed};
@@ -13,7 +13,7 @@ use hm_base::{OutOfMemory, TreeOptions};
 use hm_tree::{Editor, EventView, Tree};
 use std::alloc::Global;
 
-// The tree with each event rewritten, where texts that then touch are joined.
+/// The tree with each event rewritten. Texts that become neighbours are joined.
 pub(crate) fn rewritten(
     alloc: Global,
     tree: Tree,
@@ -24,17 +24,17 @@ pub(crate) fn rewritten(
     let mut editor = tree.edit();
     let mut scratch = String::new(alloc);
     for _ in 0..editor.left() {
-        // With what is done, what is left is a walk.
+        // Asked only for its contract: done and left events together are a walk.
         if editor.left() > 0 {
             edit_next(&mut editor, &mut scratch, options)?;
         }
     }
-    // What is done is a walk now.
+    // Asked only for its contract: the done events now are a walk.
     editor.left();
     Ok(editor.finish())
 }
 
-// Makes of the next event what it becomes.
+/// Changes the next event or leaves it out.
 fn edit_next(
     editor: &mut Editor,
     scratch: &mut String,
@@ -54,13 +54,14 @@ fn edit_next(
     Ok(())
 }
 
+/// Whether an event is a comment.
 fn is_comment(event: &EventView<'_>) -> bool
     ensures { result ≡ begins_comment (event_of event.now ∷ []) }
 {
     matches!(event, EventView::Comment { .. })
 }
 
-// Changes the next event, which stays.
+/// Changes the next event, which isn't left out.
 fn change_next(
     editor: &mut Editor,
     scratch: &mut String,
@@ -82,6 +83,7 @@ fn change_next(
     Ok(())
 }
 
+/// Makes a doctype one that isn't legacy, if the options say so.
 fn change_doctype(editor: &mut Editor, options: &TreeOptions)
     requires { begins_doctype editor.old.left ≡ true }
     ensures done { editor.new.done ≡ editor.old.done }
@@ -92,6 +94,7 @@ fn change_doctype(editor: &mut Editor, options: &TreeOptions)
     }
 }
 
+/// Joins a text with its new neighbours, if the options leave out comments.
 fn change_text(
     editor: &mut Editor,
     scratch: &mut String,

@@ -7,15 +7,15 @@ ghost use Rattle.hm_options.specs.Space.{spaced, without_leading, without_traili
 
 use hm_base::{OutOfMemory, is_space};
 
-// A prefix of a text that stays as it is where each longest run of whitespace becomes one space. It goes up to byte
-// `to`, where the text ends or whitespace begins that changes; `after` says whether a space stands directly before.
+/// The front of a text that doesn't change when each longest run of whitespace becomes one space. It ends at byte `to`:
+/// the end of the text, or whitespace that changes. `after` says whether a space is directly before.
 #[derive(Clone, Copy)]
 pub(crate) struct SpacedFront {
     pub(crate) to: usize,
     pub(crate) after: bool,
 }
 
-// Whether a byte is whitespace. Most bytes of a text are greater than a space.
+/// Whether a byte is whitespace. Most bytes of a text are greater than a space.
 #[tactic(auto, unfolding(hm_base::specs::Bytes::is_space))]
 fn is_blank(byte: u8) -> bool
     ensures { result ≡ bytes.is_space byte }
@@ -23,7 +23,7 @@ fn is_blank(byte: u8) -> bool
     byte <= b' ' && is_space(byte as char)
 }
 
-// As `is_blank`. Each test is made, so that many bytes are tested at once.
+/// As `is_blank`. Every comparison is made, without a branch, so that many bytes can be tested at once.
 #[inline(always)]
 #[tactic(auto, unfolding(hm_base::specs::Bytes::is_space))]
 fn is_any_space(byte: u8) -> bool
@@ -32,7 +32,7 @@ fn is_any_space(byte: u8) -> bool
     (byte == b'\t') | (byte == b'\n') | (byte == 12) | (byte == b'\r') | (byte == b' ')
 }
 
-// As `changes`. Each test is made.
+/// As `changes`. Every comparison is made, without a branch.
 #[inline(always)]
 fn changes_at(after: bool, byte: u8) -> bool
     ensures { result ≡ fronts.changes after byte }
@@ -40,15 +40,15 @@ fn changes_at(after: bool, byte: u8) -> bool
     is_any_space(byte) & (after | (byte != b' '))
 }
 
-// Whether a byte is whitespace that changes: `after` says whether whitespace stands directly before.
+/// Whether a byte is whitespace that changes. `after` says whether whitespace is directly before it.
 fn changes(after: bool, byte: u8) -> bool
     ensures { result ≡ fronts.changes after byte }
 {
     is_blank(byte) && (after || byte != b' ')
 }
 
-// Whether one of the bytes in `here` is whitespace that changes; in `earlier` are the bytes one place before them. All
-// are looked at, with no branch between them.
+/// Whether one of the bytes in `here` is whitespace that changes. `earlier` has the byte before each of them. All are
+/// tested, without a branch.
 #[inline(always)]
 fn has_change(earlier: &[u8], here: &[u8]) -> bool
     requires { length earlier.now ≡ length here.now }
@@ -61,7 +61,7 @@ fn has_change(earlier: &[u8], here: &[u8]) -> bool
     found
 }
 
-// Where a prefix ends in which no whitespace after the first byte changes. It is found by 16 bytes at a time.
+/// The end of a front in which no whitespace after the first byte changes. It is searched for by 16 bytes at a time.
 fn steady_end(bytes: &[u8]) -> usize
     requires { 0 < length bytes.now }
     ensures inside { result ≤ length bytes.now }
@@ -75,7 +75,7 @@ fn steady_end(bytes: &[u8]) -> usize
     at
 }
 
-// A prefix in which no whitespace changes.
+/// A front in which no whitespace changes.
 fn steady_front(bytes: &[u8]) -> SpacedFront
     ensures inside { result.to ≤ length bytes.now }
     ensures same { spaced false bytes.now ≡ take result.to bytes.now ++ spaced result.after (drop result.to bytes.now) }
@@ -93,7 +93,7 @@ fn steady_front(bytes: &[u8]) -> SpacedFront
     }
 }
 
-// The longest such prefix.
+/// The longest front in which no whitespace changes.
 pub(crate) fn spaced_front(bytes: &[u8]) -> SpacedFront
     ensures { IsSpacedFront bytes.now result }
 {
@@ -107,7 +107,7 @@ pub(crate) fn spaced_front(bytes: &[u8]) -> SpacedFront
     SpacedFront { to, after }
 }
 
-// The text without its leading whitespace.
+/// The text without its leading whitespace.
 fn after_space(text: &str) -> &str
     ensures same { spaced true text.now ≡ spaced false result.now }
     ensures shorter { length result.now ≤ length text.now }
@@ -120,7 +120,7 @@ fn after_space(text: &str) -> &str
     &text[at..]
 }
 
-// Appends the text with each longest run of whitespace as one space.
+/// Appends the text with each longest run of whitespace as one space.
 pub(crate) fn push_spaced(out: &mut String, text: &str) -> Result<(), OutOfMemory>
     ensures { OnOk result (string_bytes out.new ≡ string_bytes out.old ++ spaced false text.now) }
 {
@@ -138,7 +138,7 @@ pub(crate) fn push_spaced(out: &mut String, text: &str) -> Result<(), OutOfMemor
     }
 }
 
-// Whether a space stands at the start.
+/// Whether the first byte is a space.
 pub(crate) fn begins_with_space(text: &str) -> bool
     ensures { (edge : Bool) → result ≡ false → text.now ≡ without_leading edge text.now }
 {
@@ -146,7 +146,7 @@ pub(crate) fn begins_with_space(text: &str) -> bool
     !bytes.is_empty() && bytes[0] == b' '
 }
 
-// Whether a space stands at the end.
+/// Whether the last byte is a space.
 pub(crate) fn ends_with_space(text: &str) -> bool
     ensures { (edge : Bool) → result ≡ false → text.now ≡ without_trailing edge text.now }
 {
@@ -154,7 +154,7 @@ pub(crate) fn ends_with_space(text: &str) -> bool
     !bytes.is_empty() && bytes[bytes.len() - 1] == b' '
 }
 
-// The text without a space at the start, where `edge` is set.
+/// The text without a space at its start, if `edge` is set.
 pub(crate) fn without_leading(text: &str, edge: bool) -> &str
     ensures { result.now ≡ without_leading edge text.now }
 {
@@ -165,7 +165,7 @@ pub(crate) fn without_leading(text: &str, edge: bool) -> &str
     text
 }
 
-// The text without a space at the end, where `edge` is set.
+/// The text without a space at its end, if `edge` is set.
 pub(crate) fn without_trailing(text: &str, edge: bool) -> &str
     ensures { result.now ≡ without_trailing edge text.now }
 {

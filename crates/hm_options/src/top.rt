@@ -12,7 +12,7 @@ use hm_base::{OutOfMemory, TreeOptions};
 use hm_tree::Tree;
 use std::alloc::Global;
 
-/// The tree that the options ask for. Where nothing is asked for it is handed back as it is.
+/// The tree rewritten by the options. It is returned unchanged if no option is set.
 pub fn rewrite(alloc: Global, tree: Tree, options: &TreeOptions) -> Result<Tree, OutOfMemory>
     ensures ok { IfOk result (λ made. made ≡ rewrites.rewrite options.now tree) }
     ensures settled { Settled tree → IfOk result (λ made. Settled made) }
@@ -22,7 +22,7 @@ pub fn rewrite(alloc: Global, tree: Tree, options: &TreeOptions) -> Result<Tree,
     Ok(tree)
 }
 
-// Makes one pass for all rewrites but the one of whitespace.
+/// All rewrites but that of whitespace, in one pass.
 fn by_events(alloc: Global, tree: Tree, options: &TreeOptions) -> Result<Tree, OutOfMemory>
     ensures { IfOk result (λ made. made ≡ all_but_space options.now tree) }
 {
@@ -32,7 +32,7 @@ fn by_events(alloc: Global, tree: Tree, options: &TreeOptions) -> Result<Tree, O
         || options.empty
         || options.redundant
     {
-        // Its texts don't touch.
+        // Asked only for its contract: no two texts are neighbours.
         tree.len();
         let made = rewritten(alloc, tree, options)?;
         Ok(made)
@@ -41,6 +41,7 @@ fn by_events(alloc: Global, tree: Tree, options: &TreeOptions) -> Result<Tree, O
     }
 }
 
+/// The rewrite of whitespace, if it is set.
 fn by_space(alloc: Global, tree: Tree, set: bool, conservative: bool) -> Result<Tree, OutOfMemory>
     ensures { IfOk result (λ made. made ≡ where_set set (collapsed conservative) tree) }
 {

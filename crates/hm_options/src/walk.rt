@@ -25,10 +25,10 @@ use hm_elements::{is_block, is_space_parent, same_name};
 use hm_tree::{Editor, EventView, Tree};
 use std::alloc::Global;
 
-/// The tree with its whitespace collapsed. In every text but raw ones and those in `pre`, `textarea` and `svg` each
-/// longest run of whitespace becomes one space. Unless `conservative` is set, more is done. A text that is one space is
-/// left out directly in elements that don't show it, such as `ul` and `table`. Any other text loses a space at the edge
-/// of a block.
+/// The tree with its whitespace collapsed. In each text, except raw ones and those in `pre`, `textarea` and `svg`, each
+/// longest run of whitespace becomes one space. Unless `conservative` is set, more is done: a text that is one space is
+/// left out directly in elements that don't render it, such as `ul` and `table`, and any other text loses a space at
+/// the edge of a block.
 pub fn collapse(alloc: Global, tree: Tree, conservative: bool) -> Result<Tree, OutOfMemory>
     ensures ok { IfOk result (λ made. made ≡ collapsed conservative tree) }
     ensures settled { Settled tree → IfOk result (λ made. Settled made) }
@@ -37,7 +37,7 @@ pub fn collapse(alloc: Global, tree: Tree, conservative: bool) -> Result<Tree, O
     let mut scratch = String::new(alloc);
     let mut kept = 0;
     for _ in 0..editor.left() {
-        // With what is done, what is left is a walk.
+        // Asked only for its contract: done and left events together are a walk.
         editor.left();
         let after = kept_after(kept, &editor.next());
         edit_next(&mut editor, &mut scratch, kept, conservative)?;
@@ -46,7 +46,7 @@ pub fn collapse(alloc: Global, tree: Tree, conservative: bool) -> Result<Tree, O
     Ok(editor.finish())
 }
 
-// How many of the elements that are open after an event keep their whitespace.
+/// How many of the elements that are open after an event keep their whitespace. `kept` is how many did before it.
 fn kept_after(kept: u32, event: &EventView<'_>) -> u32
     requires { kept + 1 < 2 ^ 32 }
     ensures { (path : List Element) → ends_match path (event_of event.now ∷ []) ≡ true → kept ≡ kept_count path → result ≡ kept_count (path_after_event path (event_of event.now)) }
@@ -58,7 +58,7 @@ fn kept_after(kept: u32, event: &EventView<'_>) -> u32
     }
 }
 
-// Whether an event is the start or the end of a block.
+/// Whether an event is the start or the end of a block.
 fn is_edge(event: &EventView<'_>) -> bool
     ensures { result ≡ space.is_edge (Some (event_of event.now)) }
 {
@@ -69,7 +69,7 @@ fn is_edge(event: &EventView<'_>) -> bool
     }
 }
 
-// Whether the last event that is done is the start or the end of a block.
+/// Whether the last event that is done is the start or the end of a block.
 fn is_edge_before(editor: &Editor) -> bool
     ensures { result ≡ space.is_edge (last_event editor.now.done) }
 {
@@ -77,7 +77,7 @@ fn is_edge_before(editor: &Editor) -> bool
     done > 0 && is_edge(&editor.event(done - 1))
 }
 
-// Whether the event after the next one is the start or the end of a block.
+/// Whether the event after the next one is the start or the end of a block.
 fn is_edge_after(editor: &Editor) -> bool
     requires { 0 < length editor.now.left }
     ensures { result ≡ space.is_edge (slice_get editor.now.left 1) }
@@ -88,7 +88,7 @@ fn is_edge_after(editor: &Editor) -> bool
     }
 }
 
-// Whether a text of only whitespace isn't seen as the next event.
+/// Whether a text of only whitespace isn't rendered as the next event.
 fn hides_space(editor: &Editor) -> bool
     ensures { result ≡ space.hides_space (path_after [] editor.now.done) }
 {
@@ -105,7 +105,7 @@ fn hides_space(editor: &Editor) -> bool
     }
 }
 
-// Whether event `i` of those that are done stands directly in `head`.
+/// Whether event `i` of those that are done is directly in `head`.
 fn is_in_head(editor: &Editor, i: u32) -> bool
     requires { i < length editor.now.done }
     ensures { result ≡ is_name head (current_name (path_after [] (take i editor.now.done))) }
@@ -119,7 +119,7 @@ fn is_in_head(editor: &Editor, i: u32) -> bool
     }
 }
 
-// Makes of the next event what it becomes.
+/// Changes the next event or leaves it out. `kept` is how many open elements keep their whitespace.
 fn edit_next(
     editor: &mut Editor,
     scratch: &mut String,
@@ -148,7 +148,7 @@ fn edit_next(
     Ok(())
 }
 
-// Of the next event, a text, keeps what is seen.
+/// Cuts the next event, a text, to what is rendered of it.
 fn keep_seen(editor: &mut Editor, seen: Seen)
     requires text { plain_text_first editor.old.left ≡ true }
     requires seen { IsSeen (first_text editor.old.left) seen }
@@ -163,7 +163,7 @@ fn keep_seen(editor: &mut Editor, seen: Seen)
     }
 }
 
-// Puts what is seen of a text, whose runs of whitespace are single spaces, in place of the next event.
+/// Replaces the next event, a text, by what is rendered of `text`, in which each run of whitespace is one space.
 fn put_seen(editor: &mut Editor, text: &str, conservative: bool) -> Result<(), OutOfMemory>
     requires first { plain_text_first editor.old.left ≡ true }
     requires some { is_null text.now ≡ false }
@@ -181,14 +181,14 @@ fn put_seen(editor: &mut Editor, text: &str, conservative: bool) -> Result<(), O
     Ok(())
 }
 
-// The bytes of a text that are seen, from one place up to another.
+/// The bytes of a text that are rendered: from byte `from` up to `to`.
 #[derive(Clone, Copy)]
 struct Seen {
     from: usize,
     to: usize,
 }
 
-// What is seen of a text whose runs of whitespace are single spaces, as the next event.
+/// What is rendered of a text as the next event. Each run of whitespace in it is one space.
 fn seen_of(editor: &Editor, text: &str, conservative: bool) -> Seen
     requires next { 0 < length editor.now.left }
     requires some { is_null text.now ≡ false }
@@ -213,7 +213,7 @@ fn seen_of(editor: &Editor, text: &str, conservative: bool) -> Seen
     }
 }
 
-// A text without a space after the edge of a block, as the next event.
+/// The text as the next event, without a space directly after the edge of a block.
 fn front_trimmed<'t>(text: &'t str, editor: &Editor) -> &'t str
     ensures { result.now ≡ without_leading (space.is_edge (last_event editor.now.done)) text.now }
 {
@@ -224,7 +224,7 @@ fn front_trimmed<'t>(text: &'t str, editor: &Editor) -> &'t str
     }
 }
 
-// A text without a space before the edge of a block, as the next event.
+/// The text as the next event, without a space directly before the edge of a block.
 fn end_trimmed<'t>(text: &'t str, editor: &Editor) -> &'t str
     requires { 0 < length editor.now.left }
     ensures { result.now ≡ without_trailing (space.is_edge (slice_get editor.now.left 1)) text.now }

@@ -1,15 +1,15 @@
-//! Why there is no tree of a page in a store.
+//! Why a page in a store has no tree.
 use hm_base::{OutOfMemory, Refused, Rule};
 use hm_store::LoadFault;
 
-/// Why a page in a store gives no tree.
+/// Why a page in a store has no tree.
 #[derive(Clone, Copy, PartialEq, Eq)]
 pub enum PageLoadFault {
-    /// The page is refused, at a byte of it.
+    /// The page is refused by this rule, at the byte `at` of the page.
     Page { rule: Rule, at: u32 },
     /// A call on the store has failed, or the store has no such file.
     Store,
-    /// Memory was refused.
+    /// An allocation failed.
     OutOfMemory,
 }
 
@@ -30,6 +30,7 @@ impl From<LoadFault> for PageLoadFault {
 
     ghost from_gives = { λ load fault. fault ≡ load_fault_of load };
 
+    /// Keeps the cause.
     fn from(fault: LoadFault) -> Self {
         match fault {
             LoadFault::Store => PageLoadFault::Store,
@@ -44,6 +45,7 @@ impl From<Refused> for PageLoadFault {
 
     ghost from_gives = { λ refused fault. fault ≡ fault_of refused };
 
+    /// Keeps the cause.
     fn from(refused: Refused) -> Self {
         match refused {
             Refused::Page { rule, at } => PageLoadFault::Page { rule, at },

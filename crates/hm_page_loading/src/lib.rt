@@ -1,5 +1,5 @@
-//! Loading a page: its tree is built while its bytes come from a store, so that neither its bytes nor its text are held
-//! whole.
+//! Loads a page: its tree is built while its bytes are read from a store, so that neither all its bytes nor all its
+//! text are in memory.
 #![tactic(auto)]
 
 mod fault;

@@ -1,4 +1,4 @@
-//! A page that is loaded from a store.
+//! Loads a page from a store.
 ghost use Rattle.std.specs.Prelude.{◌≡◌, ◌≤◌, ◌<◌, ◌^◌, ◌⊎◌, [], IfOk, IfErr, OnOk, Err, true, length};
 ghost use Rattle.hm_elements.specs.Settled.{Settled};
 ghost use Rattle.hm_store.specs.Causes.{Rose};
@@ -15,11 +15,11 @@ use hm_store::{Failed, LoadFault, Store};
 use hm_tree::Tree;
 use std::alloc::Global;
 
-/// The most bytes that one pull takes.
+/// The most bytes that one pull reads.
 const PIECE: usize = 65_536;
 
-/// Pulls the next bytes of the file that is being read, at most `left` of them, and hands them to the builder: how many there
-/// were. They are pulled into a piece that is used again.
+/// Reads the next bytes of the open file, at most `left` of them, and gives them to the builder. Returns how many there
+/// were. `piece` is the buffer for one pull.
 fn pull_more<'t, S: Store>(
     store: &mut S,
     piece: &mut [u8],
@@ -52,7 +52,7 @@ fn pull_more<'t, S: Store>(
     }
 }
 
-/// Hands the bytes of the file that is being read to the builder, at most one more than `limit`: how many there are.
+/// Gives the bytes of the open file to the builder, up to `limit + 1` of them. Returns how many there were.
 fn pull_all<'t, S: Store>(
     store: &mut S,
     limit: u32,
@@ -85,8 +85,8 @@ fn pull_all<'t, S: Store>(
 
 /// The tree of the page of that name, and how many bytes the page has.
 ///
-/// The tree is built while the bytes come. They are read to the end of the page, or of what a page may have, also where a
-/// token is refused, since a page that is too long, isn't UTF-8 or has a zero byte is refused for that.
+/// The tree is built while the bytes are read. They are read to the end of the page, or up to the limit of a page, even
+/// after a token is refused, since a page that is too long, isn't UTF-8 or has a zero byte is refused for that instead.
 pub fn load_page<S: Store>(
     alloc: Global,
     store: &mut S,
@@ -97,12 +97,12 @@ pub fn load_page<S: Store>(
     ensures settled { IfOk result (λ read. Settled read.0) }
     ensures err { IfErr result (NoPageTree (S.files store.old) name.now table.now.entries) }
 
-    // It changes nothing but what is being read.
+    // Only what is being read changes.
     ensures same { S.files store.new ≡ S.files store.old }
     ensures writing { S.is_writing store.new ≡ S.is_writing store.old }
     ensures target { S.target store.new ≡ S.target store.old }
 
-    // A call has failed, or the file isn't there. Where a tree is returned, none has.
+    // The causes are a failed call and a missing file. If a tree is returned, no call has failed.
     ensures steady { OnOk result (S.faults store.new ≡ S.faults store.old) }
     ensures later { S.faults store.old ≤ S.faults store.new }
     ensures store { result ≡ Err PageLoadFault.Store

@@ -1,4 +1,4 @@
-//! A builder that looks for tokens at growing intervals.
+//! A builder that looks for ready tokens at growing intervals.
 ghost use Rattle.std.specs.Prelude.{◌≡◌, ◌≤◌, ◌++◌, ℕ, List, [], IfOk, IfErr, OnOk};
 ghost use Rattle.hm_elements.specs.Settled.{Settled};
 ghost use Rattle.hm_build.specs.Trees.{built};
@@ -13,20 +13,20 @@ use hm_tree::Tree;
 use std::alloc::Global;
 use std::marker::Model;
 
-/// How many bytes come for each one that the builder scans again.
+/// A scan waits until this many times the kept bytes have been read.
 const SPACING: usize = 3;
 
-/// A builder of the tree of a page, which takes the bytes as they come.
+/// Builds the tree of a page from its bytes, and scans them at growing intervals.
 ///
-/// At each scan the builder reads again what it keeps: the begin of a token that isn't ready. So it scans only once three times
-/// as many bytes have come. Before the last scan no more than n / 3 bytes of a page of n bytes are read again, whatever
-/// its tokens are and however few bytes come at a time; at the end what is kept is read once or twice more.
+/// Each scan reads again what is kept, the start of an incomplete token. So it waits until three times as many bytes
+/// have been read. For a page of n bytes, at most n / 3 bytes are read again before the last scan, whatever its tokens
+/// and its pieces are. At the end what is kept is read once or twice more.
 #[derive(Drop)]
 pub struct SpacedBuilder<'t> {
     builder: Builder<'t>,
-    // How many bytes of the text were kept after the last scan.
+    /// How many bytes of the text were kept by the last scan.
     kept: u32,
-    // How many bytes of the page have come since.
+    /// How many bytes of the page were read since then.
     since: usize,
 }
 
@@ -41,7 +41,7 @@ impl<'t> Model for SpacedBuilder<'t> {
 }
 
 impl<'t> SpacedBuilder<'t> {
-    /// Nothing has come yet.
+    /// Nothing is read yet. At most `limit` bytes of the page may follow.
     pub fn new(
         alloc: Global,
         table: &'t Table,
@@ -61,7 +61,7 @@ impl<'t> SpacedBuilder<'t> {
         })
     }
 
-    /// Takes the next bytes of the page, and all that is ready of those that came, once they are enough.
+    /// Reads the next bytes of the page, and takes the ready tokens once enough bytes were read.
     pub fn take(&mut self, piece: &[u8]) -> Result<(), OutOfMemory>
         ensures taken { OnOk result ((taken : List ℕ) → HasTaken self.old taken → HasTaken self.new (taken ++ piece.now)) }
         ensures spaced { OnOk result (IsSpaced self.new) }

@@ -1,4 +1,4 @@
-//! Why bytes are no table.
+//! Why bytes aren't a table.
 ghost use Rattle.std.specs.Prelude.{◌≡◌};
 ghost use Rattle.hm_refs.specs.Faults.{fault_name};
 
@@ -6,7 +6,8 @@ use hm_base::{OutOfMemory, OwnedText};
 use std::alloc::{AllocError, AllocFailed};
 use thiserror::Error;
 
-/// The first fault of a table's bytes, in the order of these cases. A key is the least one, in byte order, that has the fault.
+/// The first fault of a table's bytes, in the order of these cases. A key is the least one, in byte order, with the
+/// fault.
 #[derive(Debug, Drop, Error)]
 pub enum TableFault {
     /// More than 1,048,576 bytes.
@@ -23,19 +24,19 @@ pub enum TableFault {
     #[error("BadName {}", .key.text)]
     BadName { key: OwnedText },
     /// The key's value isn't an object whose `codepoints` is an array of one or two scalar values other than 0, each a
-    /// whole number without point or exponent.
+    /// whole number without point and exponent.
     #[error("BadPoints {}", .key.text)]
     BadPoints { key: OwnedText },
     /// More than 4,096 names.
     #[error("TooMany")]
     TooMany,
-    /// More than 64 names have this first code point, or more than 4 without `;`. It is the least such point.
+    /// More than 64 names have this first code point, or more than 4 without `;`. `point` is the least such code point.
     #[error("TooManyFor {point}")]
     TooManyFor { point: u32 },
-    /// A name without `;` whose form with `;` isn't there with the same code points.
+    /// A name without `;`, while the same name with `;` is missing or has other code points.
     #[error("Lone {}", .key.text)]
     Lone { key: OwnedText },
-    /// Memory was refused.
+    /// An allocation failed.
     #[error("Memory")]
     OutOfMemory,
 }

@@ -13,7 +13,7 @@ use hm_base::OutOfMemory;
 use std::alloc::Global;
 use std::collections::BTreeMap;
 
-/// For each first code point the names that it begins, in order.
+/// For each code point the names that have it as their first one, in byte order.
 pub(crate) fn firsts_of(
     alloc: Global,
     names: &[ReferenceName],
@@ -29,7 +29,7 @@ pub(crate) fn firsts_of(
     Ok(firsts)
 }
 
-/// The least first code point with too many names, or too many without `;`.
+/// The least code point that is the first one of too many names, or of too many without `;`.
 pub(crate) fn least_crowded(
     names: &[ReferenceName],
     firsts: &BTreeMap<char, Vec<NameId>>,
@@ -44,6 +44,7 @@ pub(crate) fn least_crowded(
     least
 }
 
+/// The lesser of two code points, if there are any.
 fn lesser(a: Option<char>, b: Option<char>) -> Option<char>
     ensures { result ≡ lesser a b }
 {
@@ -54,7 +55,7 @@ fn lesser(a: Option<char>, b: Option<char>) -> Option<char>
     }
 }
 
-/// The code point, where too many names begin with it.
+/// The code point, if it is the first one of too many names.
 fn if_crowded(
     names: &[ReferenceName],
     firsts: &BTreeMap<char, Vec<NameId>>,
@@ -69,7 +70,7 @@ fn if_crowded(
     }
 }
 
-/// Whether these are more names than may have one first code point, or more without `;`.
+/// Whether these are more names than may have the same first code point, or more without `;`.
 fn are_many(names: &[ReferenceName], ids: &[NameId]) -> bool
     requires { All (λ id. id < length names.now) ids.now }
     ensures { result ≡ are_many (entries_of names.now) ids.now }
@@ -80,7 +81,7 @@ fn are_many(names: &[ReferenceName], ids: &[NameId]) -> bool
     open_names(names, ids) > OPEN_LIMIT
 }
 
-/// How many of these names have no `;`.
+/// How many of these names don't end in `;`.
 fn open_names(names: &[ReferenceName], ids: &[NameId]) -> usize
     requires { All (λ id. id < length names.now) ids.now }
     ensures { result ≡ count_by (is_open_at (entries_of names.now)) ids.now }

@@ -3,7 +3,7 @@ ghost use Rattle.std.specs.Prelude.{◌≡◌};
 
 use std::marker::Model;
 
-/// A name of a table, by its number in byte order. It belongs to the table that gave it.
+/// A name of a table: its number in byte order. It is only meant for the table that gave it.
 #[derive(Clone, Copy, Debug, PartialEq, Eq)]
 pub struct NameId {
     number: u32,
@@ -20,12 +20,14 @@ impl Model for NameId {
 }
 
 impl NameId {
+    /// The name with this number.
     pub(crate) fn new(number: u32) -> NameId
         ensures { result ≡ number }
     {
         NameId { number }
     }
 
+    /// The number of the name, as an index.
     pub(crate) fn index(self) -> usize
         ensures { result ≡ self }
     {
@@ -33,7 +35,8 @@ impl NameId {
     }
 }
 
-/// A node of a table's trie: bytes that some name begins with, the `&` included. It belongs to the table that gave it.
+/// A node of a table's trie: bytes that at least one name starts with, the `&` included. It is only meant for the table
+/// that gave it.
 #[derive(Clone, Copy, Debug, PartialEq, Eq)]
 pub struct Node {
     number: u32,
@@ -50,12 +53,14 @@ impl Model for Node {
 }
 
 impl Node {
+    /// The node with this number.
     pub(crate) fn new(number: u32) -> Node
         ensures { result ≡ number }
     {
         Node { number }
     }
 
+    /// The number of the node, as an index.
     pub(crate) fn index(self) -> usize
         ensures { result ≡ self }
     {

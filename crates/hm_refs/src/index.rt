@@ -9,16 +9,16 @@ use std::collections::BTreeMap;
 /// The names by their first code points.
 #[derive(Drop)]
 pub(crate) enum Index {
-    /// For each first code point its names.
+    /// For each first code point its names. A table that was read has this one.
     Gathered(BTreeMap<char, Vec<NameId>>),
-    /// All names in the order of their first code points.
+    /// All names in the order of their first code points. The table built into the program has this one.
     Sorted(SortedNames),
 }
 
 /// The names in the order of their first code points.
 #[derive(Drop)]
 pub(crate) struct SortedNames {
-    /// The first code point of each.
+    /// The first code point of each name.
     pub(crate) points: &'static [char],
     pub(crate) names: Vec<NameId>,
 }

@@ -3,22 +3,22 @@ ghost use Rattle.hm_refs.specs.Laws.{BestIsLeast, BestIsShortest, HexadecimalIsS
 
 pub use crate::table::every_table;
 
-/// What `longest` finds is the longest name that the text begins with.
+/// What `longest` finds is the longest name that the text starts with.
 pub fn longest_is_longest()
     ensures { LongestIsLongest }
 {}
 
-/// Where `longest` finds none, the text begins with no name.
+/// If `longest` finds none, the text starts with no name.
 pub fn none_is_longest()
     ensures { NoneIsLongest }
 {}
 
-/// The best number of a code point is the least that gives it.
+/// The best number of a code point is the least one that gives it.
 pub fn best_is_least()
     ensures { BestIsLeast }
 {}
 
-/// Where a code point has no best number, no number gives it.
+/// If a code point has no best number, no number gives it.
 pub fn none_is_best()
     ensures { NoneIsBest }
 {}
@@ -35,12 +35,12 @@ pub fn hexadecimal_is_shorter()
     ensures { HexadecimalIsShorter }
 {}
 
-/// The keys of a JSON object stand in byte order.
+/// The keys of a JSON object are in byte order.
 pub fn keys_ascend()
     ensures { KeysAscend }
 {}
 
-/// The names that a table's bytes give are a table.
+/// The names in a table's bytes are a table.
 pub fn names_are_table()
     ensures { NamesAreTable }
 {}

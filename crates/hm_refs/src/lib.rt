@@ -1,4 +1,5 @@
-//! Character references: the table of names with its trie, the numbers of numeric references, and references as they are read.
+//! Character references: the table of names with its trie, the code points of numeric references, and reading a
+//! reference.
 #![tactic(auto)]
 
 mod fault;

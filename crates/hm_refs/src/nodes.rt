@@ -1,4 +1,4 @@
-//! The names of a table in a trie: a vector of nodes, in which the children of each stand side by side.
+//! The names of a table in a trie: a vector of nodes, in which the children of each are neighbours.
 ghost use Rattle.std.specs.Prelude.{◌≡◌, ◌<◌, ◌≤◌, [], ◌+◌, drop, length, OnOk, IfOk};
 ghost use Rattle.hm_refs.specs.declared.limits.TheConstants.{LENGTH_LIMIT};
 ghost use Rattle.hm_refs.specs.Nodes.{AreNames, AreWithin, IsFound, IsPut, IsSpread, IsWhole, Steps, adopted, entries_of};
@@ -9,30 +9,30 @@ use crate::text::NameText;
 use hm_base::{OutOfMemory, Points};
 use std::alloc::Global;
 
-/// A name with the code points that it stands for.
+/// A name with its code points.
 #[derive(Drop)]
 pub(crate) struct ReferenceName {
     pub(crate) text: NameText,
     pub(crate) points: Points,
 }
 
-/// A node. The bytes that lead to it are `&` and `depth` more of the name with the number `name`.
+/// A node. Its bytes are `&` and the next `depth` bytes of the name with the number `name`.
 #[derive(Drop)]
 pub(crate) struct TrieNode {
     pub(crate) name: u32,
     pub(crate) depth: u32,
-    /// The name that ends here.
+    /// The name whose bytes are those of this node.
     pub(crate) ends: Option<NameId>,
-    /// The last of the bytes that lead here.
+    /// The last of its bytes.
     pub(crate) byte: u8,
-    /// Where its children begin, which stand in the byte order of the names.
+    /// The index of its first child. Children are in byte order.
     pub(crate) first: u32,
     /// How many children it has.
     pub(crate) count: u32,
 }
 
 impl TrieNode {
-    /// Takes one more child, after those that it has.
+    /// Adds one more child after the others.
     fn adopt(&mut self, child: u32)
         requires { self.old.count < 4294967295 }
         ensures { self.new ≡ adopted self.old child }
@@ -44,7 +44,7 @@ impl TrieNode {
     }
 }
 
-/// The child of the node at `at` that `byte` leads to.
+/// The child of the node `at` by `byte`.
 pub(crate) fn find_child(nodes: &[TrieNode], at: usize, byte: u8) -> Option<Node>
     requires inside { at < length nodes.now }
     requires few { length nodes.now < 4294967296 }
@@ -61,7 +61,8 @@ pub(crate) fn find_child(nodes: &[TrieNode], at: usize, byte: u8) -> Option<Node
     None
 }
 
-/// The child of `at` by `byte`, which is made, if it isn't there, for `depth` bytes of the name `name`.
+/// The child of the node `at` by `byte`. If it isn't there, makes it, for the first `depth` bytes after the `&` of the
+/// name `name`.
 fn step(
     nodes: &mut Vec<TrieNode>,
     at: usize,
@@ -90,6 +91,7 @@ fn step(
     Ok(Node::new(child))
 }
 
+/// The bytes after the first one.
 pub(crate) fn after_first_byte(text: &[u8]) -> &[u8]
     requires { 0 < length text.now }
     ensures { result.now ≡ drop 1 text.now }
@@ -97,9 +99,9 @@ pub(crate) fn after_first_byte(text: &[u8]) -> &[u8]
     &text[1..]
 }
 
-/// Moves each name that has more than `depth` bytes after its `&` on to the node of one byte more.
+/// Moves each name that has more than `depth` bytes after its `&` to the node of one byte more.
 ///
-/// The names are in byte order, so those that stand at one node come one after another, and so do its children.
+/// The names are in byte order, so those of one node are neighbours, and so are its children.
 fn grow_deeper(
     names: &[ReferenceName],
     depth: u32,
@@ -126,7 +128,7 @@ fn grow_deeper(
     Ok(())
 }
 
-/// Records in each node which name ends there.
+/// Records in each node the name that has just its bytes.
 pub(crate) fn mark_ends(names: &[ReferenceName], nodes: &mut [TrieNode], places: &[Node])
     requires { IsPut (entries_of names.now) 0 nodes.old places.now }
     ensures { IsWhole (entries_of names.now) nodes.new places.now }

@@ -1,8 +1,8 @@
-//! Numbers of numeric character references (HTML Standard, #numeric-character-reference-end-state).
+//! The code points of numeric character references (HTML Standard, #numeric-character-reference-end-state).
 ghost use Rattle.std.specs.Prelude.{◌≡◌};
 ghost use Rattle.hm_refs.specs.Numbers.{best_number, look_back, look_up, point_of, replaced};
 
-/// The numbers of C1 controls that stand for another code point, each with that one.
+/// The numbers of C1 controls that give another code point, each with that one.
 const REPLACED: [(u32, char); 27] = [
     (0x80, '\u{20AC}'),
     (0x82, '\u{201A}'),
@@ -33,8 +33,8 @@ const REPLACED: [(u32, char); 27] = [
     (0x9F, '\u{0178}'),
 ];
 
-/// The code point that `&#` and the digits of `n` stand for (#numeric-character-reference-end-state): U+FFFD for zero, a
-/// surrogate and what is above U+10FFFF.
+/// The code point of `&#` and the digits of `n` (#numeric-character-reference-end-state): U+FFFD for zero, a surrogate
+/// and a number above 0x10FFFF.
 ///
 /// All numbers above 0x10FFFF give the same, so a reader of digits may stop at 0x110000.
 pub fn number_value(n: u32) -> char
@@ -49,7 +49,7 @@ pub fn number_value(n: u32) -> char
     }
 }
 
-/// The least number whose reference gives `c`; None where no reference by number does.
+/// The least number whose reference gives `c`. None if there is none.
 ///
 /// No decimal reference to `c` is shorter than the one with this number.
 #[tactic(auto, unfolding(crate::specs::Numbers::best_number))]
@@ -69,6 +69,7 @@ pub fn best_number(c: char) -> Option<u32>
     }
 }
 
+/// The code point that the number of a C1 control gives, if that is another one.
 fn replacement(n: u32) -> Option<char>
     ensures { result ≡ look_up n replaced }
 {
@@ -83,6 +84,7 @@ fn replacement(n: u32) -> Option<char>
     None
 }
 
+/// The number of the C1 control that gives this code point.
 fn replaced_number(c: char) -> Option<u32>
     ensures { result ≡ look_back c replaced }
 {

@@ -1,4 +1,4 @@
-//! Tables whose names stand in byte order, read token by token.
+//! Tables whose names are in byte order, read token by token.
 ghost use Rattle.std.specs.Prelude.{◌≡◌, ◌≤◌, [], length, Some, IsTrue, IfSome, OnSome, codes, option_and_then};
 ghost use Rattle.serde_json.specs.Find.{as_u64};
 ghost use Rattle.serde_json.specs.Read.{number_of};
@@ -15,9 +15,9 @@ use hm_base::Points;
 use json::{Reader, Scratch, Token};
 use std::alloc::Global;
 
-/// The names of a table whose keys stand in byte order, each once, as in the standard's own file. Each value is an
-/// object with `codepoints`, after which a text may stand, as in `{"codepoints":[198],"characters":"Æ"}`. None where
-/// the bytes have another form, which may still be a table's.
+/// The names of a table whose keys are distinct and in byte order, as in the standard's own file. Each value is an
+/// object with `codepoints`, and maybe one text after that, as in `{"codepoints":[198],"characters":"Æ"}`. None if the
+/// bytes have another form, which may still be that of a table.
 pub(crate) fn ordered_names(alloc: Global, bytes: &[u8]) -> Option<Vec<ReferenceName>>
     requires { length bytes.now ≤ TABLE_LIMIT }
     ensures gathered { IfSome result (λ names. IsGathered (entries_of names.items)) }
@@ -34,7 +34,7 @@ pub(crate) fn ordered_names(alloc: Global, bytes: &[u8]) -> Option<Vec<Reference
     Some(names)
 }
 
-/// The names that an object's members give.
+/// The names of an object's members.
 fn members<'a>(alloc: Global, reader: &mut Reader<'a>) -> Option<Vec<ReferenceName>>
     ensures { IfSome result (λ names. IsTableOf reader.old (entries_of names.items) reader.new) }
 {
@@ -55,13 +55,14 @@ fn members<'a>(alloc: Global, reader: &mut Reader<'a>) -> Option<Vec<ReferenceNa
     Some(names)
 }
 
+/// Whether a name comes before another one in byte order.
 fn is_before(a: &[u8], b: &[u8]) -> bool
     ensures { IsTrue result → IsBefore a.now b.now }
 {
     a.cmp(b).is_lt()
 }
 
-/// The code points of a name's object.
+/// The code points in a name's object.
 fn entry(reader: &mut Reader<'_>) -> Option<Points>
     ensures { IfSome result (λ points. IsEntry reader.old (points_list points) reader.new) }
 {
@@ -77,7 +78,7 @@ fn entry(reader: &mut Reader<'_>) -> Option<Points>
     Some(points)
 }
 
-/// The code points of an array.
+/// The code points in an array.
 fn list(reader: &mut Reader<'_>) -> Option<Points>
     ensures { IfSome result (λ points. ArePoints reader.old (points_list points) reader.new) }
 {
@@ -101,7 +102,7 @@ fn list(reader: &mut Reader<'_>) -> Option<Points>
     })
 }
 
-/// Passes the end of a name's object, and before it at most one text.
+/// Reads the end of a name's object, and before it at most one text.
 fn close(reader: &mut Reader<'_>) -> Option<()>
     ensures { OnSome result (Closes (codes "codepoints") reader.old reader.new) }
 {
@@ -120,6 +121,7 @@ fn close(reader: &mut Reader<'_>) -> Option<()>
     Some(())
 }
 
+/// The next code point of an array.
 fn point(reader: &mut Reader<'_>) -> Option<char>
     ensures { IfSome result (λ c. IsPoint reader.old c reader.new) }
 {
@@ -129,7 +131,7 @@ fn point(reader: &mut Reader<'_>) -> Option<char>
     }
 }
 
-/// The code point that a number's text writes.
+/// The code point with this number, written in decimal digits.
 fn written_point(text: &[u8]) -> Option<char>
     ensures { IfSome result
         (λ c. option_and_then if_point (option_and_then as_u64 (number_of text.now)) ≡ Some c) }

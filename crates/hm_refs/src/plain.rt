@@ -1,4 +1,4 @@
-//! Plain characters.
+//! Plain characters: see `Table::is_plain`.
 ghost use Rattle.std.specs.Prelude.{◌≡◌, [], IfOk};
 ghost use Rattle.hm_refs.specs.Plain.{is_long};
 ghost use Rattle.hm_refs.specs.Flags.{IsFlagged};
@@ -6,12 +6,13 @@ ghost use Rattle.hm_refs.specs.Nodes.{entries_of, entry_of};
 
 use crate::nodes::ReferenceName;
 
+/// The characters that are plain in a table without names.
 const PLAIN: [u8; 87] =
     *b"ABCDEFGHIJKLMNOPQRSTUVWXYZabcdefghijklmnopqrstuvwxyz0123456789!#$%()*+,-./:;?@[\\]^_{|}~";
 
-/// Says for each ASCII character whether it is plain, where the table has these names.
+/// For each ASCII character whether it is plain in a table with these names.
 ///
-/// A writer asks this of almost every character, so a table keeps the answers.
+/// A writer asks this about almost every character, so a table keeps the answers.
 pub(crate) fn plain_flags(names: &[ReferenceName]) -> [bool; 128]
     ensures { IsFlagged (entries_of names.now) result }
 {
@@ -25,7 +26,7 @@ pub(crate) fn plain_flags(names: &[ReferenceName]) -> [bool; 128]
     flags
 }
 
-/// The same for a table without names.
+/// For each ASCII character whether it is plain in a table without names.
 fn without_names() -> [bool; 128]
     ensures { IsFlagged [] result }
 {

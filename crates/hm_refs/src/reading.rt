@@ -23,8 +23,9 @@ use serde_json::{Map, Value};
 use std::alloc::Global;
 
 impl Table {
-    /// Reads a table in the form of the standard's `entities.json` (HTML Standard, #named-character-references): an object
-    /// whose keys are the names, each with an object that has the code points in `codepoints`. Other members are ignored.
+    /// Reads a table in the form of the standard's `entities.json` (HTML Standard, #named-character-references): an
+    /// object whose keys are the names. Each value is an object that has the code points in `codepoints`. Other members
+    /// are ignored.
     pub fn read(alloc: Global, bytes: &[u8]) -> Result<Table, TableFault>
         ensures ok { IfOk result (λ table. names bytes.now ≡ Ok table.entries) }
         ensures fault { IfErr result
@@ -44,7 +45,7 @@ impl Table {
     }
 }
 
-/// The table that an object's members give.
+/// The table of an object's members.
 fn of_members(alloc: Global, members: &Map<String, Value>) -> Result<Table, TableFault>
     requires { IsStrictlySortedBy (slice_cmp nat_cmp) (keys_in (members_view members.now.entries)) }
     ensures ok { IfOk result
@@ -58,6 +59,7 @@ fn of_members(alloc: Global, members: &Map<String, Value>) -> Result<Table, Tabl
     Table::checked(alloc, names)
 }
 
+/// The bytes as JSON.
 fn parse(alloc: Global, bytes: &[u8]) -> Result<Value, TableFault>
     ensures ok { IfOk result (λ value. json bytes.now ≡ Some (view value)) }
     ensures fault { IfErr result
@@ -74,6 +76,7 @@ fn parse(alloc: Global, bytes: &[u8]) -> Result<Value, TableFault>
     }
 }
 
+/// The fault of the first key that isn't a name.
 fn check_names(alloc: Global, members: &Map<String, Value>) -> Result<(), TableFault>
     ensures ok { OnOk result (first_bad_name (members_view members.now.entries) ≡ None) }
     ensures fault { IfErr result
@@ -112,7 +115,7 @@ fn gather(alloc: Global, members: &Map<String, Value>) -> Result<Vec<ReferenceNa
     Ok(names)
 }
 
-/// Adds a name with its code points.
+/// Appends a name with its code points.
 pub(crate) fn add_name(
     alloc: Global,
     names: &mut Vec<ReferenceName>,
@@ -128,7 +131,7 @@ pub(crate) fn add_name(
     Ok(())
 }
 
-/// The code points of a name's object.
+/// The code points in a name's object.
 #[tactic(auto, unfolding(crate::specs::Json::codepoints))]
 fn points_of(value: &Value) -> Option<Points>
     ensures { option_map points_list result ≡ codepoints (view value.now) }
@@ -139,6 +142,7 @@ fn points_of(value: &Value) -> Option<Points>
     }
 }
 
+/// The array of code points in a name's object.
 fn list_of(value: &Value) -> Option<&Vec<Value>>
     ensures { option_map (λ list. items_view list.now.items) result
         ≡ option_and_then as_array (get (codes "codepoints") (view value.now)) }
@@ -149,6 +153,7 @@ fn list_of(value: &Value) -> Option<&Vec<Value>>
     }
 }
 
+/// The one or two code points of an array.
 fn points_in(values: &[Value]) -> Option<Points>
     ensures { option_map points_list result ≡ points_in (items_view values.now) }
 {
@@ -159,6 +164,7 @@ fn points_in(values: &[Value]) -> Option<Points>
     }
 }
 
+/// The code points of an array of one.
 fn one_point(first: &Value) -> Option<Points>
     ensures { option_map points_list result ≡ points_in (item (view first.now) no_items) }
 {
@@ -169,6 +175,7 @@ fn one_point(first: &Value) -> Option<Points>
     })
 }
 
+/// The code points of an array of two.
 fn two_points(first: &Value, second: &Value) -> Option<Points>
     ensures { option_map points_list result
         ≡ points_in (item (view first.now) (item (view second.now) no_items)) }
@@ -181,14 +188,14 @@ fn two_points(first: &Value, second: &Value) -> Option<Points>
     })
 }
 
-/// A code point as a whole number.
+/// The code point of a whole number.
 fn point_in(value: &Value) -> Option<char>
     ensures { result ≡ point_in (view value.now) }
 {
     point_of(value.as_u64()?)
 }
 
-/// The code point with this number, where a name may stand for it.
+/// The code point with this number, if a name may give it.
 pub(crate) fn point_of(number: u64) -> Option<char>
     ensures { result ≡ if_point number }
 {
@@ -211,7 +218,7 @@ pub(crate) fn is_good_name(name: &[u8]) -> bool
     }
 }
 
-/// Whether a `;` stands at `i`, and nothing after it.
+/// Whether the byte at `i` is a `;` and the last one.
 fn is_last_semicolon(text: &[u8], i: usize) -> bool
     requires { i < length text.now }
     ensures { result ≡ ((slice_index text.now i == 59) && (i + 1 == length text.now)) }
@@ -219,7 +226,7 @@ fn is_last_semicolon(text: &[u8], i: usize) -> bool
     text[i] == b';' && i + 1 == text.len()
 }
 
-/// Letters and digits, and maybe a `;` at the end.
+/// Whether these are letters and digits, and maybe a `;` at the end.
 fn is_tail(text: &[u8]) -> bool
     ensures { result ≡ is_tail text.now }
 {
@@ -231,6 +238,7 @@ fn is_tail(text: &[u8]) -> bool
     true
 }
 
+/// Whether the byte is an ASCII letter.
 #[tactic(auto, unfolding(hm_base::specs::Bytes::is_letter))]
 fn is_letter(byte: u8) -> bool
     ensures { result ≡ is_letter byte }
@@ -238,6 +246,7 @@ fn is_letter(byte: u8) -> bool
     byte.is_ascii_alphabetic()
 }
 
+/// Whether the byte is an ASCII letter or digit.
 #[tactic(auto, unfolding(hm_base::specs::Bytes::is_alnum, hm_base::specs::Bytes::is_digit_of))]
 fn is_alnum(byte: u8) -> bool
     ensures { result ≡ is_alnum byte }

@@ -1,4 +1,4 @@
-//! A table whose names and trie stand in the program.
+//! A table whose names and trie are constants of the program.
 ghost use Rattle.std.specs.Prelude.{◌≡◌, ◌≤◌, true, length, option_to_list, IfOk};
 ghost use Rattle.hm_refs.specs.Nodes.{entries_of};
 ghost use Rattle.hm_refs.specs.Ready.{IsReady, are_cut, entries_from, nodes_from, second_of};
@@ -9,45 +9,45 @@ use crate::text::NameText;
 use hm_base::{OutOfMemory, Points};
 use std::alloc::Global;
 
-/// Names with their code points, in byte order. The lists have an item for each name.
+/// Names with their code points, in byte order. Each list has an item for each name.
 #[derive(Clone, Copy)]
 pub struct ReadyNames {
-    /// The names, the `&` included, one after another.
+    /// The bytes of all names, one after the other, each with its `&`.
     pub text: &'static str,
-    /// How many bytes each has.
+    /// The length of each name in bytes.
     pub lengths: &'static [u8],
-    /// The first code point of each.
+    /// The first code point of each name.
     pub firsts: &'static [char],
-    /// The second one; U+0000 where there is none.
+    /// The second code point of each name, or U+0000.
     pub seconds: &'static [char],
 }
 
-/// The trie of such names: a node for each of their prefixes, in the order of their lengths, and the byte order for each
-/// length. `places` has an item for each name, the other lists have one for each node.
+/// The trie of such names: a node for each prefix of a name. Shorter ones come first, and those of one length are in
+/// byte order. `places` has an item for each name, the other lists have one for each node.
 #[derive(Clone, Copy)]
 pub struct ReadyNodes {
-    /// The number of the first name that begins so.
+    /// The number of the first name that starts with the bytes of the node.
     pub names: &'static [u16],
-    /// How many bytes after the `&` lead there.
+    /// How many bytes the node has after the `&`.
     pub depths: &'static [u8],
-    /// The last byte that leads there.
+    /// The last byte of the node.
     pub bytes: &'static [u8],
-    /// How many children it has. They stand side by side, in the order of their parents.
+    /// How many children the node has. Children are neighbours, in the order of their parents.
     pub counts: &'static [u8],
     /// The node of each name.
     pub places: &'static [u16],
 }
 
-/// Such names in the order of their first code points. Names with the same one stand in byte order.
+/// Such names in the order of their first code points. Names with the same one are in byte order.
 #[derive(Clone, Copy)]
 pub struct ReadyIndex {
     /// The first code points.
     pub points: &'static [char],
-    /// The numbers of the names.
+    /// The numbers of the names, in that order.
     pub names: &'static [u16],
 }
 
-/// A second code point.
+/// A second code point, which U+0000 isn't.
 fn second(point: char) -> Option<char>
     ensures { option_to_list result ≡ second_of point }
 {
@@ -79,7 +79,7 @@ pub(crate) fn names_of(alloc: Global, ready: ReadyNames) -> Result<Vec<Reference
     Ok(names)
 }
 
-/// The nodes, of which none says yet which name ends there.
+/// The nodes. None has the name that has just its bytes yet.
 pub(crate) fn nodes_of(alloc: Global, ready: ReadyNodes) -> Result<Vec<TrieNode>, OutOfMemory>
     requires few { length ready.names.now ≤ 65536 }
     requires depths { length ready.names.now ≤ length ready.depths.now }
@@ -106,7 +106,7 @@ pub(crate) fn nodes_of(alloc: Global, ready: ReadyNodes) -> Result<Vec<TrieNode>
     Ok(nodes)
 }
 
-/// Names by their numbers.
+/// The names with these numbers.
 pub(crate) fn ids_of(alloc: Global, numbers: &[u16]) -> Result<Vec<NameId>, OutOfMemory>
     ensures { IfOk result (λ ids. ids.items ≡ numbers.now) }
 {
@@ -117,7 +117,7 @@ pub(crate) fn ids_of(alloc: Global, numbers: &[u16]) -> Result<Vec<NameId>, OutO
     Ok(ids)
 }
 
-/// The node of each name.
+/// The nodes with these numbers, one for each name.
 pub(crate) fn places_of(alloc: Global, numbers: &[u16]) -> Result<Vec<Node>, OutOfMemory>
     ensures { IfOk result (λ places. places.items ≡ numbers.now) }
 {

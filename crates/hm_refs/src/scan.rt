@@ -1,4 +1,4 @@
-//! Character references.
+//! Reading a character reference.
 ghost use Rattle.std.specs.Prelude.{◌≡◌, ◌<◌, ◌≤◌, ◌&&◌, ◌∷◌, length, drop, true, not, None, MatchOption, slice_index, ◌+◌, if◌then◌else◌};
 ghost use Rattle.std.specs.Char.{digit_value};
 ghost use Rattle.hm_base.specs.Bytes.{all_pass, rest_after, front, head_is, is_digit_of};
@@ -13,14 +13,14 @@ use crate::laws::every_table;
 use crate::numbers::number_value;
 use hm_base::Points;
 
-/// The code points that a reference gives, and how many bytes it has.
+/// The code points of a reference, and how many bytes it has.
 #[derive(Clone, Copy)]
 pub struct Reference {
     pub points: Points,
     pub len: usize,
 }
 
-/// Whether the byte is a digit of the base.
+/// Whether the byte is a digit of base 10 or 16.
 #[tactic(auto, unfolding(hm_base::specs::Bytes::is_digit_of))]
 fn is_digit(byte: u8, base: u32) -> bool
     requires low { 2 ≤ base }
@@ -30,7 +30,7 @@ fn is_digit(byte: u8, base: u32) -> bool
     char::from(byte).is_digit(base)
 }
 
-/// What a digit stands for.
+/// The value of a digit.
 #[tactic(auto, unfolding(hm_base::specs::Bytes::is_digit_of))]
 fn digit(byte: u8, base: u32) -> u32
     requires low { 2 ≤ base }
@@ -42,7 +42,7 @@ fn digit(byte: u8, base: u32) -> u32
     char::from(byte).to_digit(base).unwrap_or(0)
 }
 
-/// Where the digits end that begin at `from`.
+/// The end of the digits that start at `from`.
 fn digits_end(text: &[u8], from: usize, base: u32) -> usize
     requires inside { from ≤ length text.now }
     requires low { 2 ≤ base }
@@ -56,7 +56,7 @@ fn digits_end(text: &[u8], from: usize, base: u32) -> usize
     at
 }
 
-/// A number with the code point of the one that the digits write. Numbers above 0x10FFFF are alike.
+/// A number that gives the same code point as the one of these digits. Above 0x10FFFF it may be another one.
 fn number(digits: &[u8], base: u32) -> u32
     requires digits { all_pass (is_digit_of base) digits.now ≡ true }
     requires low { 2 ≤ base }
@@ -72,7 +72,7 @@ fn number(digits: &[u8], base: u32) -> u32
     number
 }
 
-/// The reference whose digits begin at `from`, after `&#` or `&#x` (#hexadecimal-character-reference-start-state to
+/// The reference whose digits start at `from`, after `&#` or `&#x` (#hexadecimal-character-reference-start-state to
 /// #decimal-character-reference-state, and #numeric-character-reference-end-state).
 fn numeric_reference(text: &[u8], from: usize, base: u32) -> Option<Reference>
     requires inside { from ≤ length text.now }
@@ -94,7 +94,7 @@ fn numeric_reference(text: &[u8], from: usize, base: u32) -> Option<Reference>
     Some(Reference { points, len })
 }
 
-/// One where a `;` stands at a place, else zero.
+/// 1 if there is a `;` at a place, else 0.
 fn semicolon_len(text: &[u8], at: usize) -> usize
     requires { at ≤ length text.now }
     ensures { result ≡ (if head_is refs.is_semicolon (drop at text.now) then 1 else 0) }
@@ -106,7 +106,7 @@ fn semicolon_len(text: &[u8], at: usize) -> usize
     }
 }
 
-/// The reference whose `&` is followed by `#` (#numeric-character-reference-state).
+/// The reference that starts with `&#` (#numeric-character-reference-state).
 fn hash_reference(text: &[u8]) -> Option<Reference>
     requires { 2 ≤ length text.now }
     ensures { MatchOption result (refs.hash (drop 2 text.now) ≡ None) (IsReadReference (refs.hash (drop 2 text.now)) text.now) }
@@ -118,8 +118,8 @@ fn hash_reference(text: &[u8]) -> Option<Reference>
     }
 }
 
-/// Whether a name at the start of the text isn't a reference (#named-character-reference-state). That is so where it
-/// stands in an attribute value and has no `;`, and `=`, a letter or a digit follows.
+/// Whether a name at the start of the text isn't a reference (#named-character-reference-state): it is in an attribute
+/// value, doesn't end in `;`, and `=`, a letter or a digit follows.
 fn is_blocked(in_value: bool, name: &[u8], text: &[u8]) -> bool
     requires { length name.now ≤ length text.now }
     ensures { result
@@ -147,7 +147,7 @@ fn blocks(byte: u8) -> bool
     byte == b'=' || byte.is_ascii_alphanumeric()
 }
 
-/// Whether `=`, a letter or a digit stands first.
+/// Whether the first byte is `=`, a letter or a digit.
 fn begins_with_blocking(rest: &[u8]) -> bool
     ensures { result ≡ head_is refs.blocks rest.now }
 {
@@ -157,7 +157,7 @@ fn begins_with_blocking(rest: &[u8]) -> bool
     }
 }
 
-/// The reference by the longest name that the text begins with (#named-character-reference-state).
+/// The reference by the longest name that the text starts with (#named-character-reference-state).
 fn named_reference(table: &Table, text: &[u8], in_value: bool) -> Option<Reference>
     ensures { let read = refs.named in_value (longest table.now.entries text.now) in
         MatchOption result (read ≡ None) (IsReadReference read text.now) }
@@ -174,8 +174,8 @@ fn named_reference(table: &Table, text: &[u8], in_value: bool) -> Option<Referen
     })
 }
 
-/// The reference at the start of a text that begins with `&` (#character-reference-state); `in_value` says that it
-/// stands in an attribute value.
+/// The reference at the start of a text that starts with `&` (#character-reference-state). `in_value` is true in an
+/// attribute value.
 pub fn read_reference(table: &Table, text: &[u8], in_value: bool) -> Option<Reference>
     requires some { 0 < length text.now }
     requires amp { slice_index text.now 0 ≡ 38 }

@@ -1,4 +1,4 @@
-//! The table of names of character references (HTML Standard, #named-character-references).
+//! The table of named character references (HTML Standard, #named-character-references).
 ghost use Rattle.std.specs.Prelude.{◌≡◌, ◌≢◌, ℕ, ◌<◌, ◌≤◌, ◌∷◌, true, [], List, length, is_some, option_map, Ok, Err, IfOk, IfErr, IfSome};
 ghost use Rattle.hm_refs.specs.Names.{child_of, is_name, longest};
 ghost use Rattle.hm_refs.specs.Tables.{IsGathered, IsNode, IsTable, IsTrie, entry_at, found_at, front_at, places_for, points_list};
@@ -22,9 +22,9 @@ use std::alloc::{AllocError, Global};
 use std::collections::BTreeMap;
 use std::marker::Model;
 
-/// Names of character references, each with its code points, and the trie of the names.
+/// The named character references, each with its code points, and the trie of the names.
 ///
-/// Contracts see it as the names in byte order, and for each node the bytes that lead to it, the `&` included.
+/// Contracts see the names in byte order, and for each node its bytes, the `&` included.
 #[derive(Drop)]
 pub struct Table {
     trie: Trie,
@@ -60,7 +60,7 @@ impl Table {
         })
     }
 
-    /// The table of these names, in byte order, or the first fault that it would have.
+    /// The table of these names, which are in byte order, or its first fault.
     pub(crate) fn checked(alloc: Global, names: Vec<ReferenceName>) -> Result<Table, TableFault>
         requires { IsGathered (entries_of names.items) }
         ensures ok { IfOk result (λ table. checked (entries_of names.items) ≡ Ok table.entries) }
@@ -89,7 +89,7 @@ impl Table {
         })
     }
 
-    /// The table of names that stand in the program, with their trie.
+    /// The table of names that are constants of the program, with their trie.
     pub fn ready(
         alloc: Global,
         names: ReadyNames,
@@ -124,7 +124,7 @@ impl Table {
         self.trie.count()
     }
 
-    /// The name at this place in byte order.
+    /// The name at this index in byte order.
     pub fn id_at(&self, place: u32) -> NameId
         requires { place < length self.now.entries }
         ensures { result ≡ place }
@@ -132,7 +132,7 @@ impl Table {
         NameId::new(place)
     }
 
-    /// The longest name that the text begins with (#named-character-reference-state); None where it begins with none.
+    /// The longest name that the text starts with (#named-character-reference-state). None if it starts with no name.
     pub fn longest(&self, text: &[u8]) -> Option<NameId>
         ensures found { option_map (λ id. found_at self.now.entries id text.now) result
             ≡ longest self.now.entries text.now }
@@ -141,7 +141,7 @@ impl Table {
         self.trie.longest(text)
     }
 
-    /// The code points that the name stands for.
+    /// The code points of a name.
     pub fn points(&self, id: NameId) -> Points
         requires { id < length self.now.entries }
         ensures { points_list result ≡ (entry_at self.now.entries id).points }
@@ -149,7 +149,7 @@ impl Table {
         self.trie.points(id)
     }
 
-    /// The bytes of the name, the `&` included.
+    /// The bytes of a name, the `&` included.
     pub fn name(&self, id: NameId) -> &[u8]
         requires { id < length self.now.entries }
         ensures { result.now ≡ (entry_at self.now.entries id).name }
@@ -170,9 +170,8 @@ impl Table {
         }
     }
 
-    /// Whether the character is plain: a letter, a digit, or a mark that is neither a quote nor `&`, `<`, `=`, `>` or a
-    /// grave accent. It is plain only if each name whose first code point it is gives no second one and has at least
-    /// four bytes.
+    /// Whether the character is plain: a letter, a digit, or a mark other than quotes, `&`, `<`, `=`, `>` and the grave
+    /// accent, and each name that has it as its first code point has no second one and at least four bytes.
     pub fn is_plain(&self, c: char) -> bool
         ensures { result ≡ is_plain self.now.entries c }
     {
@@ -182,7 +181,7 @@ impl Table {
         }
     }
 
-    /// The node that the `&` leads to.
+    /// The node of `&`.
     pub fn root(&self) -> Node
         ensures front { front_at self.now result ≡ 38 ∷ [] }
         ensures node { IsNode self.now result }
@@ -190,7 +189,7 @@ impl Table {
         self.trie.root()
     }
 
-    /// The node that the bytes of `node` and `byte` lead to; None where no name begins so.
+    /// The node of the bytes of `node` and `byte`. None if no name starts with them.
     pub fn child(&self, node: Node, byte: u8) -> Option<Node>
         requires { node < length self.now.fronts }
         ensures leads { option_map (front_at self.now) result
@@ -200,7 +199,7 @@ impl Table {
         self.trie.child(node, byte)
     }
 
-    /// The name that the bytes of `node` are; None where they are none.
+    /// The name whose bytes are those of `node`. None if there is none.
     pub fn name_at(&self, node: Node) -> Option<NameId>
         requires { node < length self.now.fronts }
         ensures exact { is_some result ≡ is_name self.now.entries (front_at self.now node) }
@@ -211,7 +210,7 @@ impl Table {
         self.trie.name_at(node)
     }
 
-    /// The node that all bytes of the name lead to.
+    /// The node of all bytes of a name.
     pub fn node_of(&self, id: NameId) -> Node
         requires { id < length self.now.entries }
         ensures front { front_at self.now result ≡ (entry_at self.now.entries id).name }
@@ -221,7 +220,7 @@ impl Table {
     }
 }
 
-/// What holds of the names and the nodes of every table. The function does nothing.
+/// Asked only for its contract: what is true of the names and the nodes of each table. It does nothing.
 pub fn every_table(table: &Table)
     ensures names { IsTable table.now.entries }
     ensures trie { IsTrie table.now }

@@ -3,16 +3,16 @@ ghost use Rattle.std.specs.Prelude.{◌≡◌, string_bytes};
 
 use std::marker::Model;
 
-/// Where a text stands.
+/// Where the text is kept.
 #[derive(Drop)]
 enum Held {
-    /// It was read.
+    /// In memory: it was read.
     Read(String),
-    /// It is a part of a text in the program.
+    /// In a constant of the program.
     Ready(&'static str),
 }
 
-/// The text of a name. Contracts see it as the list of its bytes.
+/// The text of a name. Contracts see the list of its bytes.
 #[derive(Drop)]
 pub(crate) struct NameText {
     held: Held,
@@ -28,6 +28,7 @@ impl Model for NameText {
 }
 
 impl NameText {
+    /// A name that was read.
     pub(crate) fn read(text: String) -> NameText
         ensures { result ≡ string_bytes text }
     {
@@ -36,6 +37,7 @@ impl NameText {
         }
     }
 
+    /// A name of the program's own table.
     pub(crate) fn ready(text: &'static str) -> NameText
         ensures { result ≡ text.now }
     {
@@ -44,6 +46,7 @@ impl NameText {
         }
     }
 
+    /// The text.
     pub(crate) fn as_str(&self) -> &str
         ensures { result.now ≡ self.now }
     {

@@ -35,6 +35,7 @@ impl Model for Trie {
 }
 
 impl Trie {
+    /// The trie of names in byte order.
     pub(crate) fn new(alloc: Global, names: Vec<ReferenceName>) -> Result<Trie, OutOfMemory>
         requires { AreNames (entries_of names.items) }
         ensures { IfOk result (λ trie. trie.entries ≡ entries_of names.items) }
@@ -48,7 +49,7 @@ impl Trie {
         })
     }
 
-    /// The trie of names whose nodes are there.
+    /// The trie of names whose nodes are constants of the program.
     pub(crate) fn ready(
         alloc: Global,
         names: Vec<ReferenceName>,
@@ -71,12 +72,14 @@ impl Trie {
         })
     }
 
+    /// How many names there are.
     pub(crate) fn count(&self) -> u32
         ensures { result ≡ length self.now.entries }
     {
         self.names.len() as u32
     }
 
+    /// The node of `&`.
     pub(crate) fn root(&self) -> Node
         ensures front { front_at self.now result ≡ 38 ∷ [] }
         ensures node { IsNode self.now result }
@@ -87,6 +90,7 @@ impl Trie {
         Node::new(0)
     }
 
+    /// The node of the bytes of `node` and `byte`. None if no name starts with them.
     pub(crate) fn child(&self, node: Node, byte: u8) -> Option<Node>
         requires { node < length self.now.fronts }
         ensures leads { option_map (front_at self.now) result
@@ -96,6 +100,7 @@ impl Trie {
         find_child(&self.nodes, node.index(), byte)
     }
 
+    /// The name whose bytes are those of `node`.
     pub(crate) fn name_at(&self, node: Node) -> Option<NameId>
         requires { node < length self.now.fronts }
         ensures { result ≡ place (front_at self.now node) (names_in self.now.entries) }
@@ -103,6 +108,7 @@ impl Trie {
         self.nodes[node.index()].ends
     }
 
+    /// The node of all bytes of a name.
     pub(crate) fn node_of(&self, id: NameId) -> Node
         requires { id < length self.now.entries }
         ensures front { front_at self.now result ≡ (entry_at self.now.entries id).name }
@@ -111,6 +117,7 @@ impl Trie {
         self.places[id.index()]
     }
 
+    /// The code points of a name.
     pub(crate) fn points(&self, id: NameId) -> Points
         requires { id < length self.now.entries }
         ensures { points_list result ≡ (entry_at self.now.entries id).points }
@@ -118,6 +125,7 @@ impl Trie {
         self.names[id.index()].points
     }
 
+    /// The text of a name.
     pub(crate) fn text(&self, id: NameId) -> &str
         requires { id < length self.now.entries }
         ensures { result.now ≡ (entry_at self.now.entries id).name }
@@ -125,6 +133,7 @@ impl Trie {
         self.names[id.index()].text.as_str()
     }
 
+    /// The bytes of a name, the `&` included.
     pub(crate) fn name(&self, id: NameId) -> &[u8]
         requires { id < length self.now.entries }
         ensures { result.now ≡ (entry_at self.now.entries id).name }
@@ -132,6 +141,7 @@ impl Trie {
         self.text(id).as_bytes()
     }
 
+    /// The longest name that the text starts with.
     pub(crate) fn longest(&self, text: &[u8]) -> Option<NameId>
         ensures found { option_map (λ id. found_at self.now.entries id text.now) result
             ≡ longest self.now.entries text.now }
@@ -155,7 +165,7 @@ impl Trie {
         best
     }
 
-    /// The first name without `;` whose form with `;` isn't there with the same code points.
+    /// The first name without `;` for which the same name with `;` is missing or has other code points.
     pub(crate) fn first_lone(&self) -> Option<NameId>
         ensures found { option_map (λ id. (entry_at self.now.entries id).name) result
             ≡ first_lone self.now.entries self.now.entries }
@@ -170,6 +180,7 @@ impl Trie {
         None
     }
 
+    /// Whether a name has no `;`, while the same name with `;` is missing or has other code points.
     fn is_lone(&self, id: NameId) -> bool
         requires { id < length self.now.entries }
         ensures { result ≡ is_lone self.now.entries (entry_at self.now.entries id) }

@@ -1,4 +1,4 @@
-//! Laws of the round trip: every spelling of a settled tree by the written rules is a page whose tree it is. Nothing runs.
+//! Laws of the round trip: each spelling of a settled tree by the written rules is a page with that tree. Nothing runs.
 #![tactic(auto)]
 
 pub mod line_ends;

@@ -5,12 +5,12 @@ ghost use Rattle.hm_round_trip_laws.specs.Tags.{SpelledDoctypesAreNext, SpelledS
 ghost use Rattle.hm_round_trip_laws.specs.Texts.{SpelledElementTextsAreRead, SpelledPointsAreInPieces, SpelledPointsEndThere, SpelledSvgPointsAreRead, SpelledSvgTextsAreRead, SpelledTextsAreInPieces, SpelledTextsAreRead, TouchingTextsAreInPieces};
 ghost use Rattle.hm_round_trip_laws.specs.Values.{SpelledValuesAreDecided, SpelledValuesAreRead};
 
-/// A reference has `&` and then letters, digits, `#` and `;` alone (#syntax-charref).
+/// A reference consists of `&` and then only letters, digits, `#` and `;` (#syntax-charref).
 pub fn references_take_few_bytes()
     ensures { ReferencesTakeFewBytes }
 {}
 
-/// A value that is spelled before the byte that ends it is read as the value, and holds no such byte
+/// A value that is spelled before the byte that ends it is read as the value, and has no such byte in it
 /// (#attribute-value-(double-quoted)-state to #attribute-value-(unquoted)-state).
 pub fn spelled_values_are_read()
     ensures read { SpelledValuesAreRead }
@@ -23,12 +23,12 @@ pub fn spelled_starts_are_next()
     ensures next { SpelledStartsAreNext }
 {}
 
-/// So is a doctype (#doctype-state to #bogus-doctype-state).
+/// A doctype that is spelled is the next token, whatever follows it (#doctype-state to #bogus-doctype-state).
 pub fn spelled_doctypes_are_next()
     ensures { SpelledDoctypesAreNext }
 {}
 
-/// A text that is spelled is read as the text (#data-state and #rcdata-state); two that touch are read as one.
+/// A text that is spelled is read as the text (#data-state and #rcdata-state). Two neighbours are read as one.
 pub fn spelled_texts_are_read()
     ensures points { SpelledPointsAreInPieces }
     ensures touching { TouchingTextsAreInPieces }
@@ -36,21 +36,22 @@ pub fn spelled_texts_are_read()
     ensures read { SpelledTextsAreRead }
 {}
 
-/// So is a text in an element of SVG, with CDATA sections or without (#cdata-section-state to #cdata-section-end-state).
+/// A text in an element of SVG that is spelled is read as the text, with CDATA sections or without
+/// (#cdata-section-state to #cdata-section-end-state).
 pub fn spelled_svg_texts_are_read()
     ensures points { SpelledSvgPointsAreRead }
     ensures read { SpelledSvgTextsAreRead }
 {}
 
-/// So is the text of `title` and `textarea`, which ends at the end tag that follows it and not before
-/// (#rcdata-less-than-sign-state to #rcdata-end-tag-name-state).
+/// The text of `title` and `textarea` that is spelled is read as the text. It ends at the end tag that follows it, and
+/// not before (#rcdata-less-than-sign-state to #rcdata-end-tag-name-state).
 pub fn spelled_element_texts_are_read()
     ensures ends { SpelledPointsEndThere }
     ensures read { SpelledElementTextsAreRead }
 {}
 
 /// What spells a settled tree is UTF-8 without a zero byte. The text of such a page (#preprocessing-the-input-stream)
-/// spells the tree too: a CR stands in whitespace of tags and doctypes alone.
+/// spells the tree too: a CR is only in whitespace of tags and doctypes.
 pub fn settled_spellings_are_pages()
     ensures no_return { SpelledPointsHaveNoReturn }
     ensures clean { SettledSpellingsAreClean }

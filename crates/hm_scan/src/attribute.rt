@@ -1,4 +1,4 @@
-//! The parts of an attribute as it is written, by their places in the text.
+//! The parts of an attribute, by their places in the text.
 ghost use Rattle.std.specs.Prelude.{◌≡◌, ◌+◌, ◌≤◌, ◌<◌, length, drop, true, false, slice_index, slice_range, IfSome, IsUtf8, IsCharBoundary};
 ghost use Rattle.memchr.specs.Find.{IsFirstByte, Nowhere, Passes, is_byte};
 ghost use Rattle.hm_base.specs.Bytes.{rest_after, is_space};
@@ -11,8 +11,8 @@ use crate::names::is_tag_byte;
 use crate::tag_runs::{ByteRun, plain_run_end, run_end};
 use memchr::{memchr, memchr2};
 
-/// A value from `from` up to `to`. What follows it and its quote begins at `after`. `plain` says that it is read as it is
-/// written, since no `&` is in it.
+/// A value: the bytes from `from` up to `to`. The bytes after it and its quote start at `after`. `plain` means that it
+/// has no `&`, so that its bytes are its text.
 #[derive(Clone, Copy)]
 pub(crate) struct Value {
     pub(crate) from: usize,
@@ -21,14 +21,14 @@ pub(crate) struct Value {
     pub(crate) plain: bool,
 }
 
-/// Where a quote stands first. `plain` says that no `&` stands before it.
+/// The place of the first quote of one kind. `plain` means that no `&` comes before it.
 #[derive(Clone, Copy)]
 struct FoundQuote {
     at: Option<usize>,
     plain: bool,
 }
 
-/// An attribute whose name ends at `name_to`. `plain` says that its name isn't refused, and is read as it is written.
+/// An attribute whose name ends at `name_to`. `plain` means that the name is allowed and its bytes are its text.
 #[derive(Clone, Copy)]
 pub(crate) struct WrittenAttribute {
     pub(crate) name_to: usize,
@@ -36,7 +36,7 @@ pub(crate) struct WrittenAttribute {
     pub(crate) value: Value,
 }
 
-/// Where the name of an attribute ends. `plain` says that it isn't refused, and is read as it is written.
+/// The end of an attribute's name. `plain` means that the name is allowed and its bytes are its text.
 #[derive(Clone, Copy)]
 struct NamePart {
     to: usize,
@@ -55,6 +55,7 @@ fn empty(at: usize) -> Value
     }
 }
 
+/// Whether the byte is `"` or `'`.
 #[tactic(auto, unfolding(crate::specs::Tags::is_quote))]
 fn is_quote(byte: u8) -> bool
     ensures { result ≡ tags.is_quote byte }
@@ -62,7 +63,7 @@ fn is_quote(byte: u8) -> bool
     byte == b'"' || byte == b'\''
 }
 
-/// Where the quote stands first, of which none is before `from`.
+/// The place of the first quote at or after `from`.
 fn quote_from(bytes: &[u8], from: usize, quote: u8) -> Option<usize>
     requires inside { from ≤ length bytes.now }
     requires none { Nowhere (Passes (is_byte quote) bytes.now) 0 from }
@@ -74,7 +75,7 @@ fn quote_from(bytes: &[u8], from: usize, quote: u8) -> Option<usize>
     }
 }
 
-/// Where the quote stands first. It is looked for together with the first `&`.
+/// The place of the first quote of one kind. The same search finds the first `&`.
 fn find_quote(bytes: &[u8], quote: u8) -> FoundQuote
     requires { tags.is_quote quote ≡ true }
     ensures found { IsFirstByte (is_byte quote) bytes.now result.at }
@@ -100,7 +101,8 @@ fn find_quote(bytes: &[u8], quote: u8) -> FoundQuote
     }
 }
 
-/// The value that begins after a quote (#attribute-value-(double-quoted)-state, #attribute-value-(single-quoted)-state).
+/// The value that starts after a quote (#attribute-value-(double-quoted)-state,
+/// #attribute-value-(single-quoted)-state).
 fn quoted_value(bytes: &[u8], from: usize, quote: u8) -> Value
     requires utf8 { IsUtf8 bytes.now }
     requires quote { tags.is_quote quote ≡ true }
@@ -125,7 +127,7 @@ fn quoted_value(bytes: &[u8], from: usize, quote: u8) -> Value
     }
 }
 
-/// The value that begins after `=` and whitespace (#before-attribute-value-state to #attribute-value-(unquoted)-state).
+/// The value that starts after `=` and whitespace (#before-attribute-value-state to #attribute-value-(unquoted)-state).
 fn value_at(bytes: &[u8], from: usize) -> Value
     requires utf8 { IsUtf8 bytes.now }
     requires boundary { IsCharBoundary bytes.now from }
@@ -165,7 +167,7 @@ fn assigned_value(bytes: &[u8], from: usize) -> Value
     value_at(bytes, run_end(bytes, equals + 1, ByteRun::Space))
 }
 
-/// Whether a byte stands at `to` that ends the name of an attribute.
+/// Whether the byte at `to` ends the name of an attribute.
 fn ends_name(bytes: &[u8], to: usize) -> bool
     ensures inside { result ≡ true → to < length bytes.now }
     ensures ends { result ≡ true → tags.is_later_byte (slice_index bytes.now to) ≡ false }
@@ -173,7 +175,7 @@ fn ends_name(bytes: &[u8], to: usize) -> bool
     to < bytes.len() && !ByteRun::AttributeName.has(bytes[to])
 }
 
-/// Where the name of the attribute ends that begins at `at`.
+/// The name of the attribute that starts at `at`.
 fn name_part(bytes: &[u8], at: usize) -> NamePart
     requires { at < length bytes.now }
     ensures end { IsEndOf tags.is_later_byte bytes.now (at + 1) result.to }
@@ -189,7 +191,7 @@ fn name_part(bytes: &[u8], at: usize) -> NamePart
     }
 }
 
-/// The attribute that begins at `at` (#attribute-name-state).
+/// The attribute that starts at `at` (#attribute-name-state).
 pub(crate) fn attribute_at(bytes: &[u8], at: usize) -> WrittenAttribute
     requires utf8 { IsUtf8 bytes.now }
     requires inside { at < length bytes.now }

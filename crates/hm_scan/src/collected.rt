@@ -1,4 +1,4 @@
-//! The attributes that were read of a tag.
+//! The attributes of a tag, collected while it is read.
 ghost use Rattle.std.specs.Prelude.{◌≡◌, ◌+◌, ◌^◌, ◌<◌, ◌≤◌, ◌&&◌, nat_le, not, true, false, [], ◌∷◌, ◌++◌, List, length, map, OnOk};
 ghost use Rattle.hm_base.specs.Walks.{Attribute};
 ghost use Rattle.hm_scan.specs.Collected.{IsCollected, added};
@@ -13,8 +13,8 @@ use hm_refs::Table;
 use hm_tree::Attrs;
 use std::alloc::Global;
 
-/// How many attributes were written, and whether one of them has a name that isn't read. The first attribute of each
-/// name is kept beside it, unless the tag is refused anyway. An end tag keeps none.
+/// How many attributes the tag has so far, and whether one of them has a name that isn't allowed. The first attribute
+/// of each name is kept in an `Attrs` beside it, unless the tag is refused anyway. An end tag keeps none.
 #[derive(Clone, Copy)]
 pub(crate) struct Collected {
     pub(crate) keeps: bool,
@@ -23,6 +23,7 @@ pub(crate) struct Collected {
 }
 
 impl Collected {
+    /// No attributes. `keeps` is true for a start tag.
     pub(crate) fn new(keeps: bool) -> Collected
         ensures { result ≡ record { keeps = keeps; count = 0; has_bad_name = false } }
     {
@@ -33,7 +34,7 @@ impl Collected {
         }
     }
 
-    /// Whether the attribute that is read next is wanted.
+    /// Whether the next attribute is kept.
     fn wants(&self) -> bool
         ensures { result
             ≡ (self.now.keeps && not self.now.has_bad_name && nat_le self.now.count ATTRIBUTE_LIMIT) }
@@ -41,8 +42,8 @@ impl Collected {
         self.keeps && !self.has_bad_name && self.count <= ATTRIBUTE_LIMIT
     }
 
-    /// Takes one more attribute, name and value as they are written (#attribute-name-state). `plain` says that its name isn't
-    /// refused, and is read as it is written; `plain_value` that its value is.
+    /// Takes one more attribute, with name and value as the page has them (#attribute-name-state). `plain` means that
+    /// the name is allowed and its bytes are its text; `plain_value` that the value has no `&`.
     pub(crate) fn take(
         &mut self,
         alloc: Global,
@@ -71,7 +72,7 @@ impl Collected {
     }
 }
 
-/// Whether this name of an attribute isn't read; `plain` says that it is.
+/// Whether this name of an attribute isn't allowed. `plain` means that it is.
 fn is_refused(name: &str, plain: bool) -> bool
     requires { plain ≡ true → IsOrdinaryName name.now }
     ensures { result ≡ reading.is_bad_name name.now }
@@ -79,7 +80,8 @@ fn is_refused(name: &str, plain: bool) -> bool
     !plain && is_bad_name(name.as_bytes())
 }
 
-/// Adds an attribute as it is read, unless its name is there. A name that is read as it is written isn't copied before.
+/// Adds an attribute with its name in lowercase letters and its value without references, unless the name is already
+/// there. A plain name isn't copied first.
 fn keep(
     attrs: &mut Attrs,
     alloc: Global,
@@ -104,7 +106,7 @@ fn keep(
     Ok(())
 }
 
-/// The same where the name is read as it is written. A value that is isn't copied before either.
+/// As `keep`, for a plain name. A plain value isn't copied first either.
 fn keep_plain(
     attrs: &mut Attrs,
     alloc: Global,

@@ -11,7 +11,7 @@ use crate::search::{MarkPiece, after_mark, begins_with, up_to_brackets, up_to_gr
 use hm_tree::{ScanFault, Token};
 use memchr::memchr2;
 
-/// Whether the bytes begin with `</` before a byte that is neither a letter nor `>`.
+/// Whether the bytes start with `</` and then neither a letter nor `>`.
 #[tactic(auto, unfolding(hm_base::specs::Bytes::is_letter))]
 fn begins_no_tag(bytes: &[u8]) -> bool
     ensures { result ≡ comments.found_and comments.is_no_tag (strip (codes "</") bytes.now) }
@@ -25,7 +25,7 @@ fn begins_no_tag(bytes: &[u8]) -> bool
     }
 }
 
-/// Whether a comment begins at byte `at` of the text, where no CDATA section may stand (#tag-open-state,
+/// Whether a comment starts at byte `at` of the text, where no CDATA section is allowed (#tag-open-state,
 /// #end-tag-open-state and #markup-declaration-open-state).
 #[tactic(auto, unfolding(crate::specs::Comments::begins_comment))]
 pub fn begins_comment(text: &str, at: u32) -> bool
@@ -38,7 +38,7 @@ pub fn begins_comment(text: &str, at: u32) -> bool
         || begins_no_tag(rest)
 }
 
-/// The length of the end of a comment that the bytes begin with.
+/// The length of the comment end that the bytes start with.
 fn comment_end(bytes: &[u8]) -> Option<usize>
     ensures { MatchOption result (after_end bytes.now ≡ None) (IsMarkEnd after_end bytes.now) }
 {
@@ -51,8 +51,8 @@ fn comment_end(bytes: &[u8]) -> Option<usize>
     }
 }
 
-/// The bytes from a place on up to the first end of a comment. The third byte of an end is `>` or `!`, so an end is
-/// looked for only before these.
+/// The bytes from a place on up to the first comment end. The third byte of an end is `>` or `!`, so an end is only
+/// looked for at the two bytes before one of these.
 fn up_to_end(bytes: &[u8], from: usize) -> Option<MarkPiece>
     requires { from ≤ length bytes.now }
     ensures { Finds bytes.now from (cut_where after_end (drop from bytes.now)) result }
@@ -95,7 +95,7 @@ fn comment_text(bytes: &[u8], from: usize) -> Option<MarkPiece>
     up_to_end(bytes, from)
 }
 
-/// The text of the comment that begins at a place. It stands after an ASCII byte.
+/// The text of the comment that starts at a place. The byte before it is ASCII.
 fn comment_piece(bytes: &[u8], start: usize) -> Option<MarkPiece>
     requires inside { start + 2 ≤ length bytes.now }
     requires begins { comments.begins_comment (drop start bytes.now) ≡ true }
@@ -112,9 +112,9 @@ fn comment_piece(bytes: &[u8], start: usize) -> Option<MarkPiece>
     up_to_greater(bytes, start + 2)
 }
 
-/// Reads the comment that begins at byte `at` of the text (#bogus-comment-state to #comment-end-bang-state). It begins
-/// with `<!--`, or is a bogus comment. That begins with `<?`, with `<!` where neither a doctype nor a CDATA section is
-/// read, or with `</` before a byte that is neither a letter nor `>`. `Cut` comes where its end is missing.
+/// Reads the comment that starts at byte `at` of the text (#bogus-comment-state to #comment-end-bang-state). It starts
+/// with `<!--`, or is a bogus comment. That starts with `<?`, with `<!` before neither a doctype nor a CDATA section,
+/// or with `</` before a byte that is neither a letter nor `>`. `Cut` means that its end is missing.
 pub fn scan_comment(text: &str, at: u32) -> Result<(Token, u32), ScanFault>
     requires begins { comments.begins_comment (drop at text.now) ≡ true }
     requires size { length text.now < 2 ^ 32 }
@@ -135,7 +135,7 @@ pub fn scan_comment(text: &str, at: u32) -> Result<(Token, u32), ScanFault>
     }
 }
 
-/// Whether a CDATA section begins at byte `at` of the text. One may stand only in an SVG element
+/// Whether a CDATA section starts at byte `at` of the text. It is only allowed in an SVG element
 /// (#markup-declaration-open-state).
 #[tactic(auto, unfolding(crate::specs::Comments::begins_cdata))]
 pub fn begins_cdata(text: &str, at: u32) -> bool
@@ -145,8 +145,8 @@ pub fn begins_cdata(text: &str, at: u32) -> bool
     begins_with(&text.as_bytes()[at as usize..], b"<![CDATA[")
 }
 
-/// Reads the text of the CDATA section that begins at byte `at` of the text (#cdata-section-state to
-/// #cdata-section-end-state). `Cut` comes where no `]]>` follows.
+/// Reads the text of the CDATA section that starts at byte `at` of the text (#cdata-section-state to
+/// #cdata-section-end-state). `Cut` means that no `]]>` follows.
 pub fn scan_cdata(text: &str, at: u32) -> Result<(Token, u32), ScanFault>
     requires begins { comments.begins_cdata (drop at text.now) ≡ true }
     requires size { length text.now < 2 ^ 32 }

@@ -7,7 +7,7 @@ ghost use Rattle.hm_scan.specs.Doctypes as doctypes;
 use crate::search::{after_mark, after_space, after_word, up_to_greater};
 use hm_tree::{ScanFault, Token};
 
-/// Whether a doctype begins at byte `at` of the text: `<!doctype` in any ASCII case (#markup-declaration-open-state).
+/// Whether a doctype starts at byte `at` of the text: `<!doctype` in any ASCII case (#markup-declaration-open-state).
 #[tactic(auto, unfolding(crate::specs::Doctypes::begins_doctype))]
 pub fn begins_doctype(text: &str, at: u32) -> bool
     requires { at ≤ length text.now }
@@ -19,14 +19,14 @@ pub fn begins_doctype(text: &str, at: u32) -> bool
     )
 }
 
-/// Whether the bytes begin with whitespace.
+/// Whether the bytes start with whitespace.
 fn begins_with_space(bytes: &[u8]) -> bool
     ensures { result ≡ head_is is_space bytes.now }
 {
     !bytes.is_empty() && hm_base::is_space(char::from(bytes[0]))
 }
 
-/// Whether the bytes are the identifier of the legacy form, and whitespace or none.
+/// Whether the bytes are the identifier of the legacy form, and then only whitespace.
 fn is_identifier(bytes: &[u8]) -> bool
     ensures { result ≡ doctypes.is_identifier bytes.now }
 {
@@ -39,7 +39,7 @@ fn is_identifier(bytes: &[u8]) -> bool
     }
 }
 
-/// Whether the bytes are `system` in any case, whitespace or none, and the identifier.
+/// Whether the bytes are `system` in any case, maybe whitespace, and the identifier.
 fn is_legacy(bytes: &[u8]) -> bool
     ensures { result ≡ doctypes.is_legacy (strip_word (codes "system") bytes.now) }
 {
@@ -49,7 +49,7 @@ fn is_legacy(bytes: &[u8]) -> bool
     }
 }
 
-/// Whether a doctype whose bytes after `html` are these is of the legacy form or of the plain one.
+/// Whether a doctype is legacy, by its bytes after `html`. None if it has no form that is allowed.
 fn form_after_name(bytes: &[u8]) -> Option<bool>
     ensures { result ≡ doctypes.form_after_name (Some bytes.now) }
 {
@@ -63,8 +63,7 @@ fn form_after_name(bytes: &[u8]) -> Option<bool>
     }
 }
 
-/// Whether a doctype with these bytes between `<!doctype` and its `>` is of the legacy form or of
-/// the plain one.
+/// Whether a doctype is legacy, by its bytes between `<!doctype` and `>`. None if it has no form that is allowed.
 #[tactic(auto, unfolding(crate::specs::Doctypes::doctype_form))]
 fn doctype_form(bytes: &[u8]) -> Option<bool>
     ensures { result ≡ doctypes.doctype_form bytes.now }
@@ -75,9 +74,9 @@ fn doctype_form(bytes: &[u8]) -> Option<bool>
     }
 }
 
-/// Reads the doctype that begins at byte `at` of the text (#doctype-state to #bogus-doctype-state): `<!doctype html>`,
-/// or that with `SYSTEM` and the identifier `about:legacy-compat`. `Cut` comes where no `>` follows, else `BadDoctype`
-/// where it has another form.
+/// Reads the doctype that starts at byte `at` of the text (#doctype-state to #bogus-doctype-state): `<!doctype html>`,
+/// or that with `SYSTEM` and the identifier `about:legacy-compat`. `Cut` means that no `>` follows, and otherwise
+/// `BadDoctype` that it has another form.
 pub fn scan_doctype(text: &str, at: u32) -> Result<(Token, u32), ScanFault>
     requires begins { doctypes.begins_doctype (drop at text.now) ≡ true }
     requires size { length text.now < 2 ^ 32 }

@@ -1,7 +1,7 @@
-//! One construct of a page, read at a place of its text: a comment, a doctype, a CDATA section, raw text, a script, a tag, or a piece
-//! of text with its character references.
+//! Reads one construct of a page at a place of its text: a comment, a doctype, a CDATA section, raw text, a script, a
+//! tag, or a piece of text with its character references.
 //!
-//! A scan answers what was read and the place after it, in bytes of the text, or why there is none.
+//! A scan returns what it read and the place after it, in bytes of the text, or why it read nothing.
 #![tactic(auto)]
 
 mod attribute;

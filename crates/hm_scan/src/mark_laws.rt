@@ -1,17 +1,17 @@
-//! Laws over what is read. The functions do nothing.
+//! Laws over the marks that are read. The functions do nothing.
 ghost use Rattle.hm_scan.specs.MarkLaws.{CommentsExtend, CdataExtends, DoctypesExtend, RawTextExtends, ScriptsExtend, CommentsAreRead, DoctypesAreRead, RawTextIsRead, ScriptsAreRead};
 
-/// A comment that ends is read the same, whatever follows it.
+/// A comment with its end is read the same, whatever follows it.
 pub fn comments_extend()
     ensures { CommentsExtend }
 {}
 
-/// So is a CDATA section.
+/// A CDATA section with its end is read the same, whatever follows it.
 pub fn cdata_extends()
     ensures { CdataExtends }
 {}
 
-/// So is a doctype, and what isn't one of its forms is refused, whatever follows it.
+/// A doctype with its `>` is read or refused the same, whatever follows it.
 pub fn doctypes_extend()
     ensures { DoctypesExtend }
 {}
@@ -21,12 +21,12 @@ pub fn raw_text_extends()
     ensures { RawTextExtends }
 {}
 
-/// So is the text of a script.
+/// The text of a script with its end tag is read the same, whatever follows it.
 pub fn scripts_extend()
     ensures { ScriptsExtend }
 {}
 
-/// What may stand in a comment is read back, whatever follows the comment.
+/// Each text that is allowed in a comment is read back, whatever follows the comment.
 pub fn comments_are_read()
     ensures { CommentsAreRead }
 {}
@@ -36,12 +36,12 @@ pub fn doctypes_are_read()
     ensures { DoctypesAreRead }
 {}
 
-/// Raw text that one end tag of its element ends is read back before each one.
+/// Raw text that one end tag of its element ends is read back before each such end tag.
 pub fn raw_text_is_read()
     ensures { RawTextIsRead }
 {}
 
-/// So is the text of a script.
+/// The text of a script that one end tag ends is read back before each such end tag.
 pub fn scripts_are_read()
     ensures { ScriptsAreRead }
 {}

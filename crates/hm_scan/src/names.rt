@@ -8,7 +8,7 @@ ghost use Rattle.hm_scan.specs.Reading as reading;
 use hm_base::OutOfMemory;
 use std::alloc::Global;
 
-/// Puts the name with its ASCII uppercase letters as lowercase letters in place of a text.
+/// Replaces a text by the name, with its ASCII uppercase letters in lowercase.
 #[tactic(auto, using(crate::proofs::NameReads::lowercase_is))]
 pub(crate) fn put_lowered(text: &mut String, name: &str) -> Result<(), OutOfMemory>
     ensures { OnOk result (string_bytes text.new ≡ map lower name.now) }
@@ -19,7 +19,7 @@ pub(crate) fn put_lowered(text: &mut String, name: &str) -> Result<(), OutOfMemo
     Ok(())
 }
 
-/// Puts the name as it is read in place of a text; `plain` says that it is read as it is written.
+/// Replaces a text by the name in lowercase letters. `plain` means that it already is.
 #[inline(always)]
 pub(crate) fn put_name(text: &mut String, name: &str, plain: bool) -> Result<(), OutOfMemory>
     requires { plain ≡ true → IsPlainName name.now }
@@ -33,7 +33,7 @@ pub(crate) fn put_name(text: &mut String, name: &str, plain: bool) -> Result<(),
     Ok(())
 }
 
-/// The name with its ASCII uppercase letters as lowercase letters.
+/// A copy of the name, with its ASCII uppercase letters in lowercase.
 pub(crate) fn lowered(alloc: Global, name: &str) -> Result<String, OutOfMemory>
     ensures { IfOk result (λ text. string_bytes text ≡ map lower name.now) }
 {
@@ -58,7 +58,7 @@ fn is_digit(byte: u8) -> bool
     byte.is_ascii_digit()
 }
 
-/// Whether the byte may stand in the name of an element.
+/// Whether the byte is allowed in the name of an element, after the first one.
 #[tactic(auto, unfolding(hm_base::specs::Forms::is_tag_byte))]
 pub(crate) fn is_tag_byte(byte: u8) -> bool
     ensures { result ≡ forms.is_tag_byte byte }
@@ -66,7 +66,7 @@ pub(crate) fn is_tag_byte(byte: u8) -> bool
     is_small(byte) || is_digit(byte) || byte == b'.' || byte == b'_' || byte == b':' || byte == b'-'
 }
 
-/// Whether the bytes may stand in the name of an element.
+/// Whether all bytes are allowed in the name of an element, after the first one.
 fn are_tag_bytes(name: &[u8]) -> bool
     ensures { result ≡ all_pass forms.is_tag_byte name.now }
 {
@@ -78,8 +78,8 @@ fn are_tag_bytes(name: &[u8]) -> bool
     true
 }
 
-/// Whether this is a name of an element that is read (#tag-name-state): a lowercase letter, and lowercase letters, digits, `.`,
-/// `_`, `:` and `-` after it.
+/// Whether this name of an element is allowed (#tag-name-state): a lowercase letter, and after it lowercase letters,
+/// digits, `.`, `_`, `:` and `-`.
 #[tactic(auto, unfolding(hm_base::specs::Forms::is_tag_name))]
 pub fn is_tag_name(name: &[u8]) -> bool
     ensures { result ≡ forms.is_tag_name name.now }
@@ -98,7 +98,7 @@ fn is_bad_byte(byte: u8) -> bool
     byte == b'"' || byte == b'\'' || byte == b'<'
 }
 
-/// Whether a quote or `<` is among the bytes.
+/// Whether one of the bytes is a quote or `<`.
 fn has_bad_byte(name: &[u8]) -> bool
     ensures { result ≡ some_passes reading.is_bad_byte name.now }
 {
@@ -110,7 +110,7 @@ fn has_bad_byte(name: &[u8]) -> bool
     false
 }
 
-/// Whether this name of an attribute isn't read: it begins with `=`, or holds a quote or `<`.
+/// Whether this name of an attribute isn't allowed: it starts with `=`, or has a quote or `<` in it.
 pub(crate) fn is_bad_name(name: &[u8]) -> bool
     ensures { result ≡ reading.is_bad_name name.now }
 {

@@ -9,7 +9,7 @@ ghost use Rattle.hm_scan.specs.Texts as texts;
 use hm_refs::{Reference, Table, read_reference};
 use memchr::{memchr, memchr2};
 
-/// Whether the bytes after a `<` make it the first byte of markup.
+/// Whether a `<` before these bytes starts markup.
 #[inline(always)]
 #[tactic(auto, unfolding(hm_base::specs::Bytes::is_letter))]
 fn opens_markup(bytes: &[u8]) -> bool
@@ -26,7 +26,7 @@ fn opens_markup(bytes: &[u8]) -> bool
     }
 }
 
-/// Whether markup begins at the start of the bytes.
+/// Whether the bytes start with markup.
 #[inline(always)]
 #[tactic(auto, unfolding(crate::specs::Texts::begins_markup))]
 pub fn markup_here(bytes: &[u8]) -> bool
@@ -51,7 +51,7 @@ pub fn reference_here(table: &Table, bytes: &[u8]) -> Option<Reference>
     }
 }
 
-/// Whether a plain text ends before the bytes.
+/// Whether a plain text ends before these bytes. `rcdata` is true in a title or a textarea.
 fn ends_plain(table: &Table, bytes: &[u8], rcdata: bool) -> bool
     requires { 0 < length bytes.now }
     ensures { result ≡ ends_before table.now.entries rcdata bytes.now }
@@ -59,7 +59,7 @@ fn ends_plain(table: &Table, bytes: &[u8], rcdata: bool) -> bool
     (!rcdata && markup_here(bytes)) || reference_here(table, bytes).is_some()
 }
 
-/// How far after a place the next byte is before which a plain text can end.
+/// How many bytes after a place the next byte is before which a plain text can end.
 fn next_sign(bytes: &[u8], from: usize, rcdata: bool) -> Option<usize>
     requires { from ≤ length bytes.now }
     ensures { IsFirstByte (is_sign rcdata) (drop from bytes.now) result }
@@ -71,7 +71,7 @@ fn next_sign(bytes: &[u8], from: usize, rcdata: bool) -> Option<usize>
     }
 }
 
-/// Where the plain text from a place on ends.
+/// The end of the plain text that starts at `from`. `rcdata` is true in a title or a textarea.
 pub fn plain_end(table: &Table, bytes: &[u8], from: usize, rcdata: bool) -> usize
     requires { from ≤ length bytes.now }
     ensures { IsPlainTo table.now.entries rcdata bytes.now from result }

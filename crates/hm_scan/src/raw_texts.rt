@@ -10,7 +10,7 @@ use crate::search::after_word;
 use hm_tree::{ScanFault, Token};
 use memchr::memmem;
 
-/// Whether the bytes begin with one that ends the name of a tag.
+/// Whether the first byte ends the name of a tag.
 #[tactic(auto, unfolding(hm_base::specs::RawText::is_name_end, hm_base::specs::Bytes::is_space))]
 fn ends_name(bytes: &[u8]) -> bool
     ensures { result ≡ head_is raw.is_name_end bytes.now }
@@ -21,7 +21,7 @@ fn ends_name(bytes: &[u8]) -> bool
     }
 }
 
-/// Whether the bytes begin with a word of lowercase letters, in any ASCII case, before the end of a name.
+/// Whether the bytes start with a word of lowercase letters, in any ASCII case, and then the end of a name.
 pub fn begins_with_name(bytes: &[u8], word: &[u8]) -> bool
     ensures { result ≡ raw.is_found_whole (strip_word word.now bytes.now) }
 {
@@ -31,7 +31,7 @@ pub fn begins_with_name(bytes: &[u8], word: &[u8]) -> bool
     }
 }
 
-/// Whether an end tag with that name begins here.
+/// Whether the bytes start with an end tag of that name.
 #[tactic(auto, unfolding(hm_base::specs::RawText::begins_end_tag), using(crate::proofs::Lowered::words_joined))]
 fn begins_end_tag(bytes: &[u8], name: &[u8]) -> bool
     ensures { result ≡ raw.begins_end_tag name.now bytes.now }
@@ -42,7 +42,8 @@ fn begins_end_tag(bytes: &[u8], name: &[u8]) -> bool
     }
 }
 
-/// The place of the first end tag with that name from a place on: `</`, the name in any ASCII case, and whitespace, `/` or `>`.
+/// The place of the first end tag of that name at or after `from`: `</`, the name in any ASCII case, and whitespace,
+/// `/` or `>`.
 pub fn end_tag_place(bytes: &[u8], from: usize, name: &[u8]) -> Option<usize>
     requires { from ≤ length bytes.now }
     ensures { FindsPlace bytes.now from (raw.raw_end name.now (drop from bytes.now)) result }
@@ -58,9 +59,9 @@ pub fn end_tag_place(bytes: &[u8], from: usize, name: &[u8]) -> Option<usize>
     None
 }
 
-/// Reads the text from byte `at` on up to the end tag with that name (#rcdata-less-than-sign-state to
-/// #rawtext-end-tag-name-state). The end tag is `</`, the name in any ASCII case, and whitespace, `/` or `>`. The name
-/// is given in lowercase letters. `Cut` comes where no such end tag follows.
+/// Reads the text from byte `at` on up to the end tag of that name (#rcdata-less-than-sign-state to
+/// #rawtext-end-tag-name-state). The end tag is `</`, the name in any ASCII case, and whitespace, `/` or `>`. `name` is
+/// in lowercase letters. `Cut` means that no such end tag follows.
 pub fn scan_raw(text: &str, at: u32, name: &str) -> Result<(Token, u32), ScanFault>
     requires boundary { IsCharBoundary text.now at }
     requires size { length text.now < 2 ^ 32 }

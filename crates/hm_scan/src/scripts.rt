@@ -11,8 +11,7 @@ use crate::search::begins_with;
 use hm_tree::{ScanFault, Token};
 use memchr::memchr2;
 
-/// How the text of a script is read from a place on: as it is, in a comment, or in a script in a
-/// comment.
+/// How the text of a script is read from some place on: as it is, in a comment, or in a script in a comment.
 #[derive(Clone, Copy)]
 enum Escaping {
     Unescaped,
@@ -30,7 +29,7 @@ enum ScriptMark {
 }
 
 impl Escaping {
-    /// The state after a mark; none where the script ends at it.
+    /// The state after a mark. None if the script ends at it.
     fn after(self, mark: Option<ScriptMark>) -> Option<Escaping>
         ensures { option_map state_of result ≡ next_state (state_of self) (option_map mark_of mark) }
     {
@@ -45,7 +44,7 @@ impl Escaping {
     }
 }
 
-/// The mark that the bytes begin with.
+/// The mark that the bytes start with.
 #[tactic(auto, unfolding(hm_base::specs::RawText::mark_at))]
 fn mark_at(bytes: &[u8]) -> Option<ScriptMark>
     ensures { option_map mark_of result ≡ raw.mark_at bytes.now }
@@ -63,7 +62,7 @@ fn mark_at(bytes: &[u8]) -> Option<ScriptMark>
     }
 }
 
-/// The place of the end tag that ends a script whose text begins at a place.
+/// The place of the end tag that ends a script. Its text starts at `from`.
 pub fn script_end(bytes: &[u8], from: usize) -> Option<usize>
     requires { from ≤ length bytes.now }
     ensures { FindsPlace bytes.now from (raw.script_end (drop from bytes.now)) result }
@@ -82,7 +81,7 @@ pub fn script_end(bytes: &[u8], from: usize) -> Option<usize>
 }
 
 /// Reads the text of a script from byte `at` on up to its end tag (#script-data-state and
-/// #script-data-less-than-sign-state to #script-data-double-escape-end-state). `Cut` comes where no such end tag
+/// #script-data-less-than-sign-state to #script-data-double-escape-end-state). `Cut` means that no such end tag
 /// follows.
 pub fn scan_script(text: &str, at: u32) -> Result<(Token, u32), ScanFault>
     requires boundary { IsCharBoundary text.now at }

@@ -6,7 +6,8 @@ ghost use Rattle.hm_scan.specs.Found.{Finds};
 
 use memchr::{memchr, memmem};
 
-/// A piece of a text from `from` up to `to`, where its end stands; what follows the end begins at `after`.
+/// A piece of a text, the bytes from `from` up to `to`. Its end mark is at `to`, and the bytes after that start at
+/// `after`.
 #[derive(Clone, Copy)]
 pub struct MarkPiece {
     pub from: usize,
@@ -44,7 +45,7 @@ pub fn up_to_brackets(bytes: &[u8], from: usize) -> Option<MarkPiece>
     }
 }
 
-/// Whether the bytes begin with a mark.
+/// Whether the bytes start with a mark.
 #[tactic(auto, using(crate::proofs::Steps::begins_is))]
 pub fn begins_with(bytes: &[u8], mark: &[u8]) -> bool
     ensures { result ≡ begins mark.now bytes.now }
@@ -52,7 +53,7 @@ pub fn begins_with(bytes: &[u8], mark: &[u8]) -> bool
     bytes.starts_with(mark)
 }
 
-/// What follows a mark, where the bytes begin with it.
+/// The bytes after a mark, if they start with it.
 pub fn after_mark<'t>(bytes: &'t [u8], mark: &[u8]) -> Option<&'t [u8]>
     ensures { MatchOption result (strip mark.now bytes.now ≡ None) (λ rest. strip mark.now bytes.now ≡ Some rest.now) }
 {
@@ -63,7 +64,7 @@ pub fn after_mark<'t>(bytes: &'t [u8], mark: &[u8]) -> Option<&'t [u8]>
     }
 }
 
-/// An ASCII uppercase letter as its lowercase letter.
+/// The lowercase letter of an ASCII uppercase letter. Another byte is unchanged.
 #[tactic(auto, unfolding(hm_base::specs::Bytes::lower))]
 fn lowered(byte: u8) -> u8
     ensures { result ≡ lower byte }
@@ -71,7 +72,7 @@ fn lowered(byte: u8) -> u8
     byte.to_ascii_lowercase()
 }
 
-/// What follows a word of lowercase letters in any ASCII case, where the bytes begin with it.
+/// The bytes after a word of lowercase letters, if they start with it in any ASCII case.
 #[tactic(auto, using(crate::proofs::Steps::word_short))]
 pub fn after_word<'t>(bytes: &'t [u8], word: &[u8]) -> Option<&'t [u8]>
     ensures { MatchOption result (strip_word word.now bytes.now ≡ None) (λ rest. strip_word word.now bytes.now ≡ Some rest.now) }
@@ -87,7 +88,7 @@ pub fn after_word<'t>(bytes: &'t [u8], word: &[u8]) -> Option<&'t [u8]>
     Some(&bytes[word.len()..])
 }
 
-/// What follows the whitespace that the bytes begin with.
+/// The bytes after the whitespace at their start.
 pub fn after_space(bytes: &[u8]) -> &[u8]
     ensures { result.now ≡ rest_after is_space bytes.now }
 {

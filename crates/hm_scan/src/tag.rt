@@ -21,15 +21,15 @@ use hm_refs::Table;
 use hm_tree::{Attrs, Lexeme, ScanFault, Tag, Token};
 use std::alloc::Global;
 
-/// What is known of a tag beside its name and its attributes: whether a `/` stands directly before its `>`. What
-/// follows it begins at `after`.
+/// What is known of a whole tag beside its name and its attributes: whether a `/` is directly before its `>`, and where
+/// the bytes after it start.
 #[derive(Clone, Copy)]
 struct Whole {
     slash: bool,
     after: u32,
 }
 
-/// Whether a name of a tag, in lowercase letters, is one that is read. `plain` says that it is.
+/// Whether a name of a tag, in lowercase letters, is allowed. `plain` means that it is.
 fn is_read(name: &str, plain: bool) -> bool
     requires { plain ≡ true → forms.is_tag_name name.now ≡ true }
     ensures { result ≡ forms.is_tag_name name.now }
@@ -37,8 +37,8 @@ fn is_read(name: &str, plain: bool) -> bool
     plain || is_tag_name(name.as_bytes())
 }
 
-/// Why a tag with this name, in lowercase letters, and these attributes is refused; None where it isn't. `plain` says
-/// that the name is read.
+/// Why a tag with this name, in lowercase letters, and these attributes is refused, if it is. `plain` means that the
+/// name is allowed.
 fn fault_of(name: &str, plain: bool, collected: &Collected) -> Option<ScanFault>
     requires { plain ≡ true → forms.is_tag_name name.now ≡ true }
     ensures { (t : List Entry) (written kept : List Attribute) → IsCollected t written collected.now kept
@@ -56,14 +56,14 @@ fn fault_of(name: &str, plain: bool, collected: &Collected) -> Option<ScanFault>
     None
 }
 
-/// Where the name of a tag ends. `plain` says that it is one that is read, and as it is written.
+/// The end of a tag's name. `plain` means that the name is allowed and in lowercase letters.
 #[derive(Clone, Copy)]
 struct NameEnd {
     to: usize,
     plain: bool,
 }
 
-/// Whether a lowercase letter stands at `from`, and at `to` a byte that ends the name of a tag.
+/// Whether the byte at `from` is a lowercase letter, and the one at `to` ends the name of a tag.
 #[inline(always)]
 fn is_plain_between(bytes: &[u8], from: usize, to: usize) -> bool
     requires { to ≤ length bytes.now }
@@ -78,7 +78,7 @@ fn is_plain_between(bytes: &[u8], from: usize, to: usize) -> bool
     is_small(bytes[from]) && !ByteRun::TagName.has(bytes[to])
 }
 
-/// Where the name of a tag ends that begins at `from`.
+/// The end of the tag's name that starts at `from`.
 #[inline(always)]
 fn name_end(text: &str, from: usize) -> NameEnd
     requires { IsCharBoundary text.now from }
@@ -97,7 +97,7 @@ fn name_end(text: &str, from: usize) -> NameEnd
     }
 }
 
-/// Whether a tag ends directly after its name, which is read as it is written.
+/// Whether a tag has a plain name and ends directly after it.
 #[inline(always)]
 fn is_bare(bytes: &[u8], end: NameEnd) -> bool
     ensures plain { result ≡ true → end.plain ≡ true }
@@ -107,7 +107,7 @@ fn is_bare(bytes: &[u8], end: NameEnd) -> bool
     end.plain && end.to < bytes.len() && bytes[end.to] == b'>'
 }
 
-/// Takes the attributes of an earlier tag away, if it had any.
+/// Removes the attributes of an earlier tag, if it had any.
 #[inline(always)]
 fn clear(attrs: &mut Attrs)
     ensures { attrs.new ≡ [] }
@@ -117,7 +117,7 @@ fn clear(attrs: &mut Attrs)
     }
 }
 
-/// Reads the tag whose name begins at `from` and ends at `to`, where its `>` stands. No attribute is in it.
+/// Reads a tag without attributes. Its name starts at `from` and ends at `to`, where its `>` is.
 #[inline(always)]
 fn read_bare(text: &str, from: usize, to: usize, tag: &mut Tag) -> Result<Whole, ScanFault>
     requires size { length text.now < 2 ^ 32 }
@@ -138,7 +138,7 @@ fn read_bare(text: &str, from: usize, to: usize, tag: &mut Tag) -> Result<Whole,
     })
 }
 
-/// Reads the tag whose name begins at `from` and ends at `end`, with what stands between that and its `>`.
+/// Reads a tag whose name starts at `from` and ends at `end`. Bytes may follow before its `>`.
 fn read_full(
     alloc: Global,
     text: &str,
@@ -168,8 +168,8 @@ fn read_full(
     }
 }
 
-/// Reads the tag whose name begins at `from`, and puts its name, in lowercase letters, and its attributes into `tag`;
-/// `keeps` says whether its attributes are wanted.
+/// Reads the tag whose name starts at `from`. Puts its name, in lowercase letters, and its attributes into `tag`.
+/// `keeps` is false for an end tag, whose attributes are dropped.
 #[inline(always)]
 fn read_whole(
     alloc: Global,
@@ -192,7 +192,7 @@ fn read_whole(
     read_full(alloc, text, from, end, table, keeps, tag)
 }
 
-/// Reads the start tag whose name begins at `from`.
+/// Reads the start tag whose name starts at `from`.
 #[inline(always)]
 fn scan_start(
     alloc: Global,
@@ -215,7 +215,7 @@ fn scan_start(
     Ok((lexeme, whole.after))
 }
 
-/// Reads the end tag whose name begins at `from`. Its attributes are judged, and dropped with its `/`.
+/// Reads the end tag whose name starts at `from`. Its attributes are checked and dropped, and so is its `/`.
 #[inline(always)]
 fn scan_end(
     alloc: Global,
@@ -236,13 +236,14 @@ fn scan_end(
     Ok((Lexeme::EndTag, whole.after))
 }
 
-/// Reads the start or end tag that begins at byte `at` of the text (#tag-name-state and #before-attribute-name-state to
-/// #self-closing-start-tag-state), and returns where what follows it begins. Names are in lowercase letters, of
-/// attributes with one name the first is kept, and character references in values are read.
+/// Reads the start or end tag that starts at byte `at` of the text (#tag-name-state and #before-attribute-name-state to
+/// #self-closing-start-tag-state), and returns the place after it. Names are in lowercase letters, only the first of
+/// attributes with the same name is kept, and character references in values are read.
 ///
-/// `Cut` comes where the text ends before the tag's `>`. Otherwise `BadName` comes where its name isn't an ASCII letter
-/// with ASCII letters, digits, `.`, `_`, `:` and `-` after it, or an attribute's name begins with `=` or holds a quote
-/// or `<`. Otherwise `TooManyAttributes` comes where more than 256 attributes are written. End tags are judged alike.
+/// `Cut` means that the text ends before the tag's `>`. Otherwise `BadName` means that its name isn't an ASCII letter
+/// and ASCII letters, digits, `.`, `_`, `:` and `-` after it, or that an attribute's name starts with `=` or has a
+/// quote or `<` in it. Otherwise `TooManyAttributes` means that the tag has more than 256 attributes. End tags are
+/// checked too.
 pub fn scan_tag(
     alloc: Global,
     text: &str,
@@ -265,8 +266,8 @@ pub fn scan_tag(
     }
 }
 
-/// The same, with the tag's name and attributes put into `tag`, in place of what was there. After an error nothing is
-/// said of what stands in it.
+/// As `scan_tag`, but puts the tag's name and attributes into `tag`, over those of an earlier tag. After an error they
+/// may be anything.
 #[inline(always)]
 pub fn scan_tag_into(
     alloc: Global,

@@ -11,7 +11,7 @@ fn is_letter(byte: u8) -> bool
     byte.is_ascii_alphabetic()
 }
 
-/// Whether a letter stands first.
+/// Whether the first byte is a letter.
 #[inline(always)]
 fn begins_with_letter(bytes: &[u8]) -> bool
     ensures { result ≡ head_is is_letter bytes.now }
@@ -22,7 +22,7 @@ fn begins_with_letter(bytes: &[u8]) -> bool
     }
 }
 
-/// Whether the bytes begin with a tag.
+/// Whether the bytes start with a tag.
 #[inline(always)]
 fn bytes_begin_tag(bytes: &[u8]) -> bool
     ensures { result ≡ reading.begins_tag bytes.now }
@@ -39,7 +39,7 @@ fn bytes_begin_tag(bytes: &[u8]) -> bool
     begins_with_letter(&bytes[1..])
 }
 
-/// Whether a tag begins at byte `at` of the text: `<` or `</`, and a letter (#tag-open-state and #end-tag-open-state).
+/// Whether a tag starts at byte `at` of the text: `<` or `</`, and a letter (#tag-open-state and #end-tag-open-state).
 #[inline(always)]
 pub fn begins_tag(text: &str, at: u32) -> bool
     requires { at ≤ length text.now }

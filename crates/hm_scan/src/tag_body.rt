@@ -8,7 +8,7 @@ use hm_refs::Table;
 use hm_tree::{Attrs, ScanFault};
 use std::alloc::Global;
 
-/// What was seen of a tag's attributes, whether a `/` stands directly before its `>`, and where what follows it begins.
+/// What was read of a tag's attributes, whether a `/` is directly before its `>`, and where the bytes after it start.
 #[derive(Clone, Copy)]
 pub(crate) struct TagBody {
     pub(crate) collected: Collected,
@@ -16,8 +16,8 @@ pub(crate) struct TagBody {
     pub(crate) after: usize,
 }
 
-/// Reads the tag whose name ends at `from`; `keeps` says whether its attributes are wanted. They are put into `attrs`,
-/// in place of what was there.
+/// Reads a tag from the end of its name, `from`, on. Its attributes are put into `attrs`, over those of an earlier tag.
+/// `keeps` is false for an end tag, whose attributes are dropped.
 pub(crate) fn read_body(
     alloc: Global,
     text: &str,

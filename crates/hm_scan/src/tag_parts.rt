@@ -5,24 +5,24 @@ ghost use Rattle.hm_scan.specs.Parts.{IsPart};
 use crate::attribute::{WrittenAttribute, attribute_at};
 use crate::tag_runs::{ByteRun, run_end};
 
-/// What comes next in a tag, after whitespace and `/`.
+/// The next part of a tag, after whitespace and `/`.
 #[derive(Clone, Copy)]
 pub(crate) enum TagPart {
     /// Nothing: the text ends.
     Nothing,
-    /// The tag's `>`, and whether a `/` stands directly before it. What follows it begins at `after`.
+    /// The tag's `>`, and whether a `/` is directly before it. The bytes after it start at `after`.
     TagEnd {
         slash: bool,
         after: usize,
     },
-    /// An attribute that begins at `at`.
+    /// An attribute that starts at `at`.
     Pair {
         at: usize,
         attribute: WrittenAttribute,
     },
 }
 
-/// Whether the bytes up to `at` end in a `/`.
+/// Whether the byte before `at` is a `/` that isn't before `from`.
 fn ends_in_slash(bytes: &[u8], from: usize, at: usize) -> bool
     requires { at ≤ length bytes.now }
     ensures { result ≡ nat_lt from at && (slice_index bytes.now (at - 1) == 47) }
@@ -30,7 +30,7 @@ fn ends_in_slash(bytes: &[u8], from: usize, at: usize) -> bool
     from < at && bytes[at - 1] == b'/'
 }
 
-/// The part of a tag that comes next (#before-attribute-name-state, #after-attribute-name-state,
+/// The next part of a tag (#before-attribute-name-state, #after-attribute-name-state,
 /// #after-attribute-value-(quoted)-state and #self-closing-start-tag-state).
 pub(crate) fn next_part(bytes: &[u8], from: usize) -> TagPart
     requires utf8 { IsUtf8 bytes.now }

@@ -7,7 +7,7 @@ ghost use Rattle.hm_scan.specs.TagPlaces.{test_of};
 
 use crate::names::{is_small, is_tag_byte};
 
-/// The bytes that a run is made of.
+/// The kind of bytes that a run has.
 #[derive(Clone, Copy)]
 pub(crate) enum ByteRun {
     /// Whitespace.
@@ -16,7 +16,7 @@ pub(crate) enum ByteRun {
     Gap,
     /// Neither whitespace nor `/` nor `>`.
     TagName,
-    /// Small letters.
+    /// Lowercase letters.
     Letter,
     /// Neither whitespace nor `/`, `>` or `=`.
     AttributeName,
@@ -25,6 +25,7 @@ pub(crate) enum ByteRun {
 }
 
 impl ByteRun {
+    /// Whether a run of this kind may have the byte in it.
     #[inline(always)]
     #[tactic(auto, unfolding(crate::specs::TagPlaces::is_gap_byte, crate::specs::Tags::is_name_byte, crate::specs::Tags::is_later_byte, crate::specs::Tags::is_unquoted_byte, hm_base::specs::RawText::is_name_end))]
     pub(crate) fn has(self, byte: u8) -> bool
@@ -43,13 +44,14 @@ impl ByteRun {
     }
 }
 
+/// Whether the byte is ASCII whitespace.
 fn is_space(byte: u8) -> bool
     ensures { result ≡ bytes.is_space byte }
 {
     hm_base::is_space(char::from(byte))
 }
 
-/// Where the run ends that begins at `from`.
+/// The end of the run that starts at `from`.
 #[inline(always)]
 pub(crate) fn run_end(bytes: &[u8], from: usize, run: ByteRun) -> usize
     requires { from ≤ length bytes.now }
@@ -62,8 +64,8 @@ pub(crate) fn run_end(bytes: &[u8], from: usize, run: ByteRun) -> usize
     at
 }
 
-/// Where the run of small letters, digits, `.`, `_`, `:` and `-` ends that begins at `from`. Most of it are letters, which are
-/// passed first.
+/// The end of the run of lowercase letters, digits, `.`, `_`, `:` and `-` that starts at `from`. Most of them are
+/// letters, so these are passed first.
 #[inline(always)]
 pub(crate) fn plain_run_end(bytes: &[u8], from: usize) -> usize
     requires { from ≤ length bytes.now }

@@ -8,8 +8,8 @@ use crate::plain_text::{markup_here, plain_end, reference_here};
 use hm_refs::Table;
 use hm_tree::Token;
 
-/// Whether markup begins at byte `at` of ordinary text (#data-state): a tag, a comment, a doctype, a CDATA section, or `</>`,
-/// which stands for nothing (#tag-open-state and #end-tag-open-state).
+/// Whether markup starts at byte `at` of ordinary text (#data-state): a tag, a comment, a doctype, a CDATA section, or
+/// `</>`, which gives no token (#tag-open-state and #end-tag-open-state).
 #[inline(always)]
 pub fn begins_markup(text: &str, at: u32) -> bool
     requires { at ≤ length text.now }
@@ -18,9 +18,9 @@ pub fn begins_markup(text: &str, at: u32) -> bool
     markup_here(&text.as_bytes()[at as usize..])
 }
 
-/// Reads the piece of text that begins at byte `at`: one character reference, or the longest piece without reference
+/// Reads the piece of text that starts at byte `at`: one character reference, or the longest piece without reference
 /// and markup (#data-state, #rcdata-state and #character-reference-state to #numeric-character-reference-end-state).
-/// `rcdata` says that the text is that of a title or a textarea and ends with it: nothing in it is markup. Returns the
+/// `rcdata` means that the text is that of a title or a textarea and ends with it: nothing in it is markup. Returns the
 /// token and the place after it, in bytes of the text.
 pub fn scan_text(text: &str, at: u32, rcdata: bool, table: &Table) -> (Token, u32)
     requires inside { at < length text.now }

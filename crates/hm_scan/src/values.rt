@@ -1,4 +1,4 @@
-//! Values of attributes as they are read.
+//! Values of attributes with their character references read.
 ghost use Rattle.std.specs.Prelude.{false, ◌≡◌, ◌++◌, ◌≤◌, length, drop, string_bytes, encode_utf8_all, IfOk, OnOk, MatchOption, IsUtf8};
 ghost use Rattle.hm_refs.specs.Tables.{points_list};
 ghost use Rattle.hm_scan.specs.Reads.{IsNext};
@@ -9,7 +9,7 @@ use hm_refs::{Reference, Table, read_reference};
 use memchr::memchr;
 use std::alloc::Global;
 
-/// A reference that begins at `at`.
+/// A reference that starts at `at`.
 #[derive(Clone, Copy)]
 pub(crate) struct PlacedReference {
     pub(crate) at: usize,
@@ -35,7 +35,7 @@ fn next_reference(table: &Table, bytes: &[u8], from: usize) -> Option<PlacedRefe
     None
 }
 
-/// Whether a character reference is in a value.
+/// Whether a value has a character reference in it.
 pub(crate) fn has_reference(written: &str, table: &Table) -> bool
     ensures { result ≡ false → values.read_value table.now.entries written.now ≡ written.now }
 {
@@ -54,8 +54,8 @@ fn push_points(text: &mut String, points: Points) -> Result<(), OutOfMemory>
     Ok(())
 }
 
-/// The value that is written so (#attribute-value-(double-quoted)-state to #attribute-value-(unquoted)-state): its character
-/// references are read (#character-reference-state).
+/// A value from its bytes in the page (#attribute-value-(double-quoted)-state to #attribute-value-(unquoted)-state),
+/// with its character references read (#character-reference-state).
 pub(crate) fn read_value(alloc: Global, written: &str, table: &Table) -> Result<String, OutOfMemory>
     ensures { IfOk result
         (λ value. string_bytes value ≡ values.read_value table.now.entries written.now) }

@@ -10,10 +10,10 @@ use std::alloc::Global;
 use std::collections::BTreeSet;
 use std::marker::Model;
 
-/// Which calls are listed to fail, and how many were made and have failed.
+/// Which calls are to fail, how many were made, and how many have failed.
 #[derive(Drop)]
 pub(crate) struct Calls {
-    // their numbers, the first call having the number 1
+    /// Their numbers, from 1.
     listed: BTreeSet<u64>,
     made: u64,
     faults: u64,
@@ -35,7 +35,7 @@ impl Model for Calls {
 }
 
 impl Calls {
-    /// No call is listed, and none was made.
+    /// No call is to fail, and none was made.
     pub(crate) fn new(alloc: Global) -> Self
         ensures { result ≡ no_calls }
     {
@@ -46,7 +46,7 @@ impl Calls {
         }
     }
 
-    /// Lists a call to fail.
+    /// Makes the call of that number fail. Calls are numbered from 1.
     pub(crate) fn list(&mut self, number: u32) -> Result<(), OutOfMemory>
         ensures ok { OnOk result (self.new ≡ with_listed self.old number) }
         ensures err { OnErr result (self.new ≡ self.old) }
@@ -55,7 +55,7 @@ impl Calls {
         Ok(())
     }
 
-    /// Begins the next call: whether it is listed to fail.
+    /// Starts the next call, and returns whether it is to fail.
     pub(crate) fn begin(&mut self) -> bool
         ensures listed { result ≡ fails_next self.old }
         ensures after { self.new ≡ record self.old { made = one_more self.old.made } }
@@ -64,7 +64,7 @@ impl Calls {
         self.listed.contains(&self.made)
     }
 
-    /// Counts the call that was begun last as failed.
+    /// Counts the call that was started last as failed.
     pub(crate) fn fail(&mut self) -> Failed
         ensures after { self.new ≡ record self.old { faults = one_more self.old.faults } }
         ensures later { self.old.faults ≤ self.new.faults }

@@ -1,4 +1,4 @@
-//! Files in memory, by name and by place.
+//! Files in memory, by name and by index.
 ghost use Rattle.std.specs.Prelude.{◌≡◌, ◌<◌, ◌++◌, ℕ, List, length, is_some, IfOk, IfSome, OnOk, OnErr};
 ghost use Rattle.std.specs.Option.{option_map};
 ghost use Rattle.std.specs.FinMap as finmap;
@@ -10,7 +10,7 @@ use indexmap::IndexMap;
 use std::alloc::Global;
 use std::marker::Model;
 
-/// Files in memory. Each has a place, which it keeps.
+/// Files in memory. Each has an index, which never changes.
 #[derive(Drop)]
 pub(crate) struct FileTable {
     files: IndexMap<String, Vec<u8>>,
@@ -49,7 +49,7 @@ impl FileTable {
         }
     }
 
-    /// The place of the file of this name.
+    /// The index of the file of this name.
     pub(crate) fn place(&self, name: &str) -> Option<usize>
         ensures found { is_some result ≡ finmap.contains_key self.now.files name.now }
         ensures within { IfSome result (λ place. place < length self.now.names) }
@@ -58,7 +58,7 @@ impl FileTable {
         self.files.get_index_of(name)
     }
 
-    /// The bytes of the file at a place.
+    /// The bytes of the file at an index.
     pub(crate) fn bytes(&self, place: usize) -> &[u8]
         requires { place < length self.now.names }
         ensures { result.now ≡ content self.now.files (name_at self.now.names place) }
@@ -69,7 +69,7 @@ impl FileTable {
         }
     }
 
-    /// Appends bytes to the file at a place.
+    /// Appends bytes to the file at an index.
     pub(crate) fn append(&mut self, place: usize, bytes: &[u8]) -> Result<(), OutOfMemory>
         requires { place < length self.old.names }
         ensures ok { OnOk result (self.new ≡ appended_at self.old place bytes.now) }
@@ -81,7 +81,7 @@ impl FileTable {
         }
     }
 
-    /// Puts a file, which replaces one of that name, and returns its place.
+    /// Adds a file or replaces the one of that name, and returns its index.
     pub(crate) fn set(&mut self, name: &str, bytes: &[u8]) -> Result<usize, OutOfMemory>
         ensures files { OnOk result (self.new.files ≡ finmap.insert self.old.files name.now bytes.now) }
         ensures places { OnOk result

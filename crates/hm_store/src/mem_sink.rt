@@ -12,7 +12,8 @@ use hm_base::OutOfMemory;
 use std::alloc::Global;
 use std::marker::Model;
 
-/// Bytes in memory, as a sink that fails at the calls that are listed to fail or to be torn.
+/// A sink that keeps its bytes in memory. Tests choose which of its calls fail, and which are torn: write only some of
+/// their bytes and then fail.
 #[derive(Drop)]
 pub struct MemSink {
     bytes: Vec<u8>,
@@ -35,7 +36,7 @@ impl Model for MemSink {
 }
 
 impl MemSink {
-    /// A sink without bytes, with no listed call.
+    /// An empty sink. No call is to fail or to be torn.
     pub fn new(alloc: Global) -> Self
         ensures { result ≡ no_bytes }
     {
@@ -46,7 +47,7 @@ impl MemSink {
         }
     }
 
-    /// Lists the call of that number to fail. Calls of `put` are numbered from 1.
+    /// Makes the call of that number fail. Calls of `put` are numbered from 1.
     pub fn fail(&mut self, call: u32) -> Result<(), OutOfMemory>
         ensures ok { OnOk result (self.new ≡ record self.old { calls = with_listed self.old.calls call }) }
         ensures err { OnErr result (self.new ≡ self.old) }
@@ -54,8 +55,8 @@ impl MemSink {
         self.calls.list(call)
     }
 
-    /// Lists the put of that number to be torn: it appends the first `bytes` bytes of its own, all where it has fewer, and fails.
-    /// Calls of `put` are numbered from 1. One that is listed to fail too changes nothing, and a second tear of one put
+    /// Makes the put of that number torn: it appends its first `bytes` bytes, or all if it has fewer, and then fails.
+    /// Calls of `put` are numbered from 1. A put that is also to fail changes nothing. A second tear of the same put
     /// replaces the first.
     pub fn tear(&mut self, put: u32, bytes: u32) -> Result<(), OutOfMemory>
         ensures ok { OnOk result (self.new ≡ record self.old { tears = with_tear self.old.tears put bytes }) }
@@ -64,7 +65,7 @@ impl MemSink {
         self.tears.list(put, bytes)
     }
 
-    /// The bytes that were put.
+    /// The bytes that were written.
     pub fn bytes(&self) -> &[u8]
         ensures { result.now ≡ self.now.bytes }
     {
@@ -77,8 +78,8 @@ impl Sink for MemSink {
 
     ghost faults = { λ s. s.calls.faults };
 
-    /// It fails where the call is listed to fail, and the bytes are then as before. A torn one appends the first of its bytes
-    /// and fails. Any other fails only for lack of memory; the bytes are then as before.
+    /// Fails if the call is to fail, and changes nothing then. A torn call appends its first bytes and fails. Any other
+    /// call fails only if an allocation fails, and changes nothing then.
     fn put(&mut self, bytes: &[u8]) -> Result<(), Failed>
         ensures listed { IsTrue (fails_next self.old.calls) → IsErr result × (self.new.bytes ≡ self.old.bytes) }
         ensures torn { IsSome (tear_next self.old.tears) → IsErr result }

@@ -17,19 +17,20 @@ use hm_base::OutOfMemory;
 use std::alloc::Global;
 use std::marker::Model;
 
-/// What is being read: the place of a file, and how many of its bytes were taken.
+/// The file that is being read: its index, and how many of its bytes were already read.
 #[derive(Clone, Copy)]
 struct FileReading {
     place: usize,
     taken: usize,
 }
 
-/// Files in memory, as a store that fails at the calls that are listed to fail and at the puts that are listed to be torn.
+/// A store that keeps its files in memory. Tests choose which of its calls fail, and which puts are torn: write only
+/// some of their bytes and then fail.
 #[derive(Drop)]
 pub struct MemStore {
     files: FileTable,
     reading: Option<FileReading>,
-    // the place of the file that is being written
+    /// The index of the file that is being written.
     writing: Option<usize>,
     calls: Calls,
     tears: Tears,
@@ -59,7 +60,7 @@ impl Model for MemStore {
 }
 
 impl MemStore {
-    /// A store without files, with no listed call.
+    /// A store without files. No call is to fail or to be torn.
     pub fn new(alloc: Global) -> Self
         ensures { result ≡ empty_store }
     {
@@ -72,7 +73,7 @@ impl MemStore {
         }
     }
 
-    /// Puts a file, which replaces one of that name.
+    /// Adds a file, or replaces the one of that name.
     pub fn add(&mut self, name: &str, bytes: &[u8]) -> Result<(), OutOfMemory>
         ensures ok { OnOk result (self.new ≡ record self.old {
           files = finmap.insert self.old.files name.now bytes.now;
@@ -83,7 +84,7 @@ impl MemStore {
         Ok(())
     }
 
-    /// Lists the call of that number to fail. The calls of all methods of `Store` are numbered from 1.
+    /// Makes the call of that number fail. The calls of all methods of `Store` are numbered together, from 1.
     pub fn fail(&mut self, call: u32) -> Result<(), OutOfMemory>
         ensures ok { OnOk result (self.new ≡ record self.old { calls = with_listed self.old.calls call }) }
         ensures err { OnErr result (self.new ≡ self.old) }
@@ -91,9 +92,9 @@ impl MemStore {
         self.calls.list(call)
     }
 
-    /// Lists the put of that number to be torn: it appends the first `bytes` bytes of its own, all where it has fewer, and fails.
-    /// Calls of `put` alone are numbered from 1. One that is listed to fail too changes nothing, and a second tear of one put
-    /// replaces the first.
+    /// Makes the put of that number torn: it appends its first `bytes` bytes, or all if it has fewer, and then fails.
+    /// Only calls of `put` are numbered, from 1. A put that is also to fail changes nothing. A second tear of the same
+    /// put replaces the first.
     pub fn tear(&mut self, put: u32, bytes: u32) -> Result<(), OutOfMemory>
         ensures ok { OnOk result (self.new ≡ record self.old { tears = with_tear self.old.tears put bytes }) }
         ensures err { OnErr result (self.new ≡ self.old) }
@@ -101,7 +102,7 @@ impl MemStore {
         self.tears.list(put, bytes)
     }
 
-    /// The bytes of a file, or None where there is none of that name.
+    /// The bytes of a file, or None if no file has that name.
     pub fn file(&self, name: &str) -> Option<&[u8]>
         ensures { option_copied result ≡ finmap.get self.now.files name.now }
     {
@@ -109,7 +110,7 @@ impl MemStore {
     }
 }
 
-/// Copies the bytes after those that were taken to the start of `into`, as many as there is room for, and returns how many.
+/// Copies bytes from index `taken` on to the start of `into`, as many as it has room for, and returns how many.
 fn copy_rest(bytes: &[u8], taken: usize, into: &mut [u8]) -> usize
     ensures count { result ≡ min (length (drop taken bytes.now)) (length into.old) }
     ensures copied { into.new ≡ take result (drop taken bytes.now) ++ drop result into.old }
@@ -139,7 +140,7 @@ impl Store for MemStore {
 
     ghost faults = { λ s. s.calls.faults };
 
-    /// It fails exactly where the call is listed.
+    /// Fails exactly if the call is to fail.
     fn open_in(&mut self, name: &str) -> Result<bool, Failed>
         ensures listed { is_err result ≡ fails_next self.old.calls }
         ensures found { IfOk result (λ found. found ≡ finmap.contains_key self.old.files name.now) }
@@ -162,7 +163,7 @@ impl Store for MemStore {
         }
     }
 
-    /// It fails exactly where the call is listed, and otherwise takes as many bytes as are there and have room.
+    /// Fails exactly if the call is to fail. Otherwise it reads as many bytes as are left and fit into `into`.
     fn pull(&mut self, into: &mut [u8]) -> Result<usize, Failed>
         requires { is_some self.old.reading ≡ true }
         ensures listed { is_err result ≡ fails_next self.old.calls }
@@ -192,7 +193,7 @@ impl Store for MemStore {
         }
     }
 
-    /// It fails where the call is listed, and otherwise only for lack of memory; the files are then as before.
+    /// Fails if the call is to fail, and otherwise only if an allocation fails. The files are then unchanged.
     fn open_out(&mut self, name: &str) -> Result<(), Failed>
         ensures listed { IsTrue (fails_next self.old.calls) → IsErr result }
         ensures ok { OnOk result (self.new ≡ record self.old {
@@ -219,8 +220,8 @@ impl Store for MemStore {
         }
     }
 
-    /// It fails where the call is listed to fail, and the files are then as before. A torn one appends the first of its bytes
-    /// and fails. Any other fails only for lack of memory; the files are then as before.
+    /// Fails if the call is to fail, and the files are then unchanged. A torn call appends its first bytes and fails.
+    /// Any other call fails only if an allocation fails, and changes no file then.
     fn put(&mut self, bytes: &[u8]) -> Result<(), Failed>
         requires { is_some self.old.writing ≡ true }
         ensures listed { IsTrue (fails_next self.old.calls) → IsErr result × (self.new.files ≡ self.old.files) }
@@ -253,7 +254,7 @@ impl Store for MemStore {
         }
     }
 
-    /// It fails exactly where the call is listed.
+    /// Fails exactly if the call is to fail.
     fn close_out(&mut self) -> Result<(), Failed>
         requires { is_some self.old.writing ≡ true }
         ensures listed { is_err result ≡ fails_next self.old.calls }

@@ -1,4 +1,4 @@
-//! The trusted edge: files of the system, and a writer. Nothing is known of their contents.
+//! The trusted edge: files of the system, and a writer. Contracts know nothing of their contents.
 ghost use Rattle.std.specs.Prelude.{◌≡◌, ◌≢◌, List, [], Bool, true, None, IsTrue, IfOk, IfErr, OnOk, is_ok, is_some};
 ghost use Rattle.std.specs.Io.{ReadsAtMost};
 ghost use Rattle.std.specs.Io.KnownBytes.{Appends, ReadConsumes};
@@ -14,9 +14,10 @@ use std::marker::Model;
 use std::rt::Files;
 use std::{fs, io};
 
-/// Files of the system, by path. A file that isn't there counts as a failed call.
+/// Files of the system, by path. A missing file counts as a failed call.
 ///
-/// It keeps in mind which call has failed last, and how many bytes the last file got. No contract speaks of that.
+/// It remembers the error of the last failed call, the name of the last file and how many bytes were written to it. No
+/// contract speaks of these.
 #[derive(Drop)]
 pub struct FileStore<'r, R: Files> {
     alloc: Global,
@@ -24,11 +25,11 @@ pub struct FileStore<'r, R: Files> {
     reading: Option<R::File>,
     writing: Option<R::File>,
     faults: u64,
-    /// The name of the file that was opened last, where there was memory for it.
+    /// The name of the file that was opened last, if there was memory for it.
     name: Option<String>,
-    /// Why the last call that failed did so.
+    /// The error of the last failed call.
     error: Option<io::Error>,
-    /// The bytes that were put since a file was opened last.
+    /// The bytes that were written since a file was last opened.
     bytes_put: u64,
 }
 
@@ -45,7 +46,7 @@ impl<'r, R: Files> Model for FileStore<'r, R> {
 }
 
 impl<'r, R: Files> FileStore<'r, R> {
-    /// A store with no open file. Memory is taken for the name of a file alone.
+    /// A store with no open file. It takes memory only for the name of a file.
     pub fn new(alloc: Global, rt: &'r R) -> Self
         ensures { result ≡ no_open_files }
     {
@@ -61,12 +62,12 @@ impl<'r, R: Files> FileStore<'r, R> {
         }
     }
 
-    /// Why the last call that failed did so, as the system tells it.
+    /// The system's error of the last failed call.
     pub fn last_error(&self) -> Option<io::Error> {
         self.error
     }
 
-    /// The name of the file that was opened last, or that couldn't be, where there was memory for it.
+    /// The name of the last file that was opened or could not be opened, if there was memory for it.
     pub fn last_name(&self) -> Option<&str> {
         match &self.name {
             Some(name) => Some(name.as_str()),
@@ -74,12 +75,12 @@ impl<'r, R: Files> FileStore<'r, R> {
         }
     }
 
-    /// How many bytes were put to the file that was opened last.
+    /// How many bytes were written to the file that was opened last.
     pub fn bytes_put(&self) -> u64 {
         self.bytes_put
     }
 
-    /// Keeps in mind that this file is opened.
+    /// Remembers the name of a file that is about to be opened.
     fn note_name(&mut self, name: &str)
         ensures { self.new ≡ self.old }
     {
@@ -88,7 +89,7 @@ impl<'r, R: Files> FileStore<'r, R> {
     }
 }
 
-/// Reads once, and again where a signal interrupts it.
+/// Reads once, and again if a signal interrupts the call.
 fn read_retrying<F: Read>(reader: &mut F, into: &mut [u8]) -> io::Result<usize>
     ensures bound { ReadsAtMost result into.new }
     ensures bytes { ReadConsumes (F.remaining reader.old) (F.remaining reader.new) result into.new }
@@ -122,6 +123,7 @@ impl<'r, R: Files> Store for FileStore<'r, R> {
 
     ghost faults = { λ s. s.faults };
 
+    /// Opens a file for reading. A missing file is a failed call, so the result is never `Ok(false)`.
     fn open_in(&mut self, name: &str) -> Result<bool, Failed>
         ensures reads { is_some self.new.reading ≡ is_ok result }
         ensures found { IfOk result (λ found. IsTrue found) }
@@ -143,6 +145,7 @@ impl<'r, R: Files> Store for FileStore<'r, R> {
         }
     }
 
+    /// Reads at most as many bytes as `into` holds, in one call that is repeated only after a signal.
     fn pull(&mut self, into: &mut [u8]) -> Result<usize, Failed>
         requires { is_some self.old.reading ≡ true }
         ensures reads { is_some self.new.reading ≡ true }
@@ -165,6 +168,7 @@ impl<'r, R: Files> Store for FileStore<'r, R> {
         }
     }
 
+    /// Creates the file, or empties one that is there.
     fn open_out(&mut self, name: &str) -> Result<(), Failed>
         ensures writes { is_some self.new.writing ≡ is_ok result }
         ensures reads { self.new.reading ≡ self.old.reading }
@@ -185,6 +189,7 @@ impl<'r, R: Files> Store for FileStore<'r, R> {
         }
     }
 
+    /// Writes all bytes to the file. After a failed call some of them may have been written.
     fn put(&mut self, bytes: &[u8]) -> Result<(), Failed>
         requires { is_some self.old.writing ≡ true }
         ensures writes { is_some self.new.writing ≡ true }
@@ -209,6 +214,7 @@ impl<'r, R: Files> Store for FileStore<'r, R> {
         }
     }
 
+    /// Flushes the file and closes it. It is closed also if flushing fails.
     fn close_out(&mut self) -> Result<(), Failed>
         requires { is_some self.old.writing ≡ true }
         ensures idle { self.new.writing ≡ None }
@@ -233,12 +239,12 @@ impl<'r, R: Files> Store for FileStore<'r, R> {
 
 /// A writer as a sink.
 ///
-/// It keeps in mind the first bytes that were put, and why the last put that failed did so. No contract speaks of that.
+/// It remembers the first bytes that were written and the error of the last failed call. No contract speaks of these.
 #[derive(Drop)]
 pub struct WriteSink<W: Write> {
     inner: W,
     faults: u64,
-    /// The first four bytes of the first put that had as many.
+    /// The first four bytes of the first put of at least four bytes.
     begin: Option<[u8; 4]>,
     error: Option<io::Error>,
 }
@@ -267,17 +273,17 @@ impl<W: Write> WriteSink<W> {
         }
     }
 
-    /// The first four bytes of the first put that had as many.
+    /// The first four bytes of the first put of at least four bytes.
     pub fn begin(&self) -> Option<[u8; 4]> {
         self.begin
     }
 
-    /// Why the last put that failed did so, as the system tells it.
+    /// The system's error of the last failed put.
     pub fn last_error(&self) -> Option<io::Error> {
         self.error
     }
 
-    /// Keeps in mind the begin of what is put first.
+    /// Remembers the first four bytes written.
     fn note_begin(&mut self, bytes: &[u8])
         ensures { self.new ≡ self.old }
     {
@@ -302,6 +308,7 @@ impl<W: Write> Sink for WriteSink<W> {
 
     ghost faults = { λ s. s.faults };
 
+    /// Writes all bytes and flushes them. After a failed call some of them may have been written.
     fn put(&mut self, bytes: &[u8]) -> Result<(), Failed>
         ensures written { OnOk result
             (Appends (W.contents self.old.inner) (W.contents self.new.inner) bytes.now) }

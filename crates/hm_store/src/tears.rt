@@ -1,4 +1,4 @@
-//! The puts that are listed to be torn.
+//! The puts that are to be torn: to write only some of their bytes and then fail.
 ghost use Rattle.std.specs.Prelude.{◌≡◌, OnOk, OnErr};
 ghost use Rattle.hm_store.specs.Tears.{no_tears, tear_next, with_tear, after_put, front_of};
 
@@ -7,10 +7,10 @@ use std::alloc::Global;
 use std::collections::BTreeMap;
 use std::marker::Model;
 
-/// Which puts are listed to be torn, and how many puts were made.
+/// Which puts are to be torn, and how many were made.
 #[derive(Drop)]
 pub(crate) struct Tears {
-    // by the number of a put, the first having the number 1: how many bytes it appends before it fails
+    /// How many bytes a put appends before it fails, by its number, from 1.
     listed: BTreeMap<u64, usize>,
     puts: u64,
 }
@@ -30,7 +30,7 @@ impl Model for Tears {
 }
 
 impl Tears {
-    /// No put is listed, and none was made.
+    /// No put is to be torn, and none was made.
     pub(crate) fn new(alloc: Global) -> Self
         ensures { result ≡ no_tears }
     {
@@ -40,7 +40,7 @@ impl Tears {
         }
     }
 
-    /// Lists a put to be torn after this many bytes.
+    /// Makes the put of that number fail after `bytes` bytes.
     pub(crate) fn list(&mut self, put: u32, bytes: u32) -> Result<(), OutOfMemory>
         ensures ok { OnOk result (self.new ≡ with_tear self.old put bytes) }
         ensures err { OnErr result (self.new ≡ self.old) }
@@ -49,7 +49,7 @@ impl Tears {
         Ok(())
     }
 
-    /// Begins the next put: how many bytes it appends before it fails, where it is listed to be torn.
+    /// Starts the next put. If it is to be torn, returns how many bytes it appends before it fails.
     pub(crate) fn begin(&mut self) -> Option<usize>
         ensures listed { result ≡ tear_next self.old }
         ensures after { self.new ≡ after_put self.old }
@@ -59,7 +59,7 @@ impl Tears {
     }
 }
 
-/// What a put appends of its bytes: all, or the first ones where it is torn.
+/// The bytes that a put appends: all, or the first `torn` if it is torn.
 pub(crate) fn front(bytes: &[u8], torn: Option<usize>) -> &[u8]
     ensures { result.now ≡ front_of torn bytes.now }
 {

@@ -1,4 +1,4 @@
-//! What the program asks of the outside.
+//! What the program needs from the outside.
 ghost use Rattle.std.specs.Prelude.{◌≡◌, ◌↔◌, ◌⊎◌, ℕ, List, [], Bool, true, false, IsSome, IfOk, OnOk, OnErr};
 ghost use Rattle.std.specs.declared.option.Option.{Option};
 ghost use Rattle.std.specs.Io.{ReadsAtMost};
@@ -12,28 +12,28 @@ pub struct Failed;
 
 /// A store of files by name, of which at most one is being read and at most one is being written.
 pub trait Store {
-    // the files, where they are known
+    // the files, if they are known
     ghost files: { Self → Option FileMap };
 
     // whether a file is being read
     ghost is_reading: { Self → Bool };
 
-    // its name, where the files are known
+    // its name, if the files are known
     ghost source: { Self → List ℕ };
 
-    // its bytes that are left to read, where the files are known
+    // its bytes that are left to read, if the files are known
     ghost rest: { Self → Option (List ℕ) };
 
     // whether a file is being written
     ghost is_writing: { Self → Bool };
 
-    // its name, where the files are known
+    // its name, if the files are known
     ghost target: { Self → List ℕ };
 
     // how often a call has failed
     ghost faults: { Self → ℕ };
 
-    /// Opens a file for reading, from its start. False says that the store has no such file.
+    /// Opens a file for reading, from its start. False means that the store has no such file.
     fn open_in(&mut self, name: &str) -> Result<bool, Failed>
         ensures same { files self.new ≡ files self.old }
         ensures reads { (is_reading self.new ≡ true) ↔ (result ≡ Ok true) }
@@ -44,7 +44,7 @@ pub trait Store {
         ensures target { target self.new ≡ target self.old }
         ensures cause { HasCause (faults self.old) (faults self.new) result };
 
-    /// Takes the next bytes of the file that is being read, and returns how many were put at the start of `into`.
+    /// Reads the next bytes of the file into the start of `into`, and returns how many there were.
     fn pull(&mut self, into: &mut [u8]) -> Result<usize, Failed>
         requires { is_reading self.old ≡ true }
         ensures same { files self.new ≡ files self.old }
@@ -57,7 +57,7 @@ pub trait Store {
         ensures target { target self.new ≡ target self.old }
         ensures cause { HasCause (faults self.old) (faults self.new) result };
 
-    /// Opens a file for writing, which makes it an empty one.
+    /// Opens a file for writing, and empties it.
     fn open_out(&mut self, name: &str) -> Result<(), Failed>
         ensures ok { OnOk result (files self.new ≡ with_file (files self.old) name.now []) }
         ensures writes { OnOk result (is_writing self.new ≡ true) }
@@ -69,7 +69,8 @@ pub trait Store {
         ensures source { source self.new ≡ source self.old }
         ensures cause { HasCause (faults self.old) (faults self.new) result };
 
-    /// Appends bytes to the file that is being written; where it fails, a prefix of them.
+    /// Appends bytes to the file that is being written. After a failed call some first part of them may have been
+    /// appended.
     fn put(&mut self, bytes: &[u8]) -> Result<(), Failed>
         requires { is_writing self.old ≡ true }
         ensures ok { OnOk result
@@ -82,7 +83,7 @@ pub trait Store {
         ensures source { source self.new ≡ source self.old }
         ensures cause { HasCause (faults self.old) (faults self.new) result };
 
-    /// Ends the writing of a file.
+    /// Ends writing the file.
     fn close_out(&mut self) -> Result<(), Failed>
         requires { is_writing self.old ≡ true }
         ensures same { files self.new ≡ files self.old }
@@ -95,13 +96,13 @@ pub trait Store {
 
 /// A sink of bytes.
 pub trait Sink {
-    // the bytes, where they are known
+    // the bytes, if they are known
     ghost contents: { Self → Option (List ℕ) };
 
     // how often a call has failed
     ghost faults: { Self → ℕ };
 
-    /// Appends bytes to those that the sink has; where it fails, a prefix of them.
+    /// Appends bytes to the sink. After a failed call some first part of them may have been appended.
     fn put(&mut self, bytes: &[u8]) -> Result<(), Failed>
         ensures ok { OnOk result (contents self.new ≡ append_known (contents self.old) bytes.now) }
         ensures err { OnErr result (AppendsFront (contents self.old) (contents self.new) bytes.now) }

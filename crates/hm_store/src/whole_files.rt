@@ -13,7 +13,7 @@ use std::alloc::{AllocError, Global};
 pub enum LoadFault {
     /// A call on the store has failed, or the store has no such file.
     Store,
-    /// Memory for the bytes was refused.
+    /// The allocation for the bytes failed.
     OutOfMemory,
 }
 
@@ -28,11 +28,11 @@ impl From<AllocError> for LoadFault {
     }
 }
 
-/// The most bytes that one pull takes.
+/// The most bytes that one pull reads.
 const PIECE: usize = 65_536;
 
-/// Appends the next bytes of the file that is being read to `bytes`, and returns whether there were any. They are
-/// pulled into a piece that is used again.
+/// Appends the next bytes of the file that is being read to `bytes`, and returns whether there were any. `piece` is the
+/// buffer for one pull.
 fn pull_more<S: Store>(
     store: &mut S,
     piece: &mut [u8],
@@ -65,7 +65,7 @@ fn pull_more<S: Store>(
     }
 }
 
-/// `front`, and after it the bytes of the file that is being read, at most one more than `limit`.
+/// Reads the rest of the open file into a buffer that starts with `front`. Reads up to `limit + 1` bytes.
 fn pull_all<S: Store>(
     alloc: Global,
     store: &mut S,
@@ -96,7 +96,7 @@ fn pull_all<S: Store>(
     Ok(bytes)
 }
 
-/// Puts bytes in place of those from `at` on, where they aren't those that stand there, and returns whether they were.
+/// Writes `piece` over `bytes` from index `at` on, unless the same bytes are already there. Returns whether they were.
 fn put_over(bytes: &mut Vec<u8>, at: usize, piece: &[u8]) -> Result<bool, AllocError>
     requires within { at ≤ length bytes.old.items }
     ensures put { IfOk result
@@ -112,8 +112,8 @@ fn put_over(bytes: &mut Vec<u8>, at: usize, piece: &[u8]) -> Result<bool, AllocE
     Ok(false)
 }
 
-/// The same of the next bytes of the file that is being read, at most up to one more than `limit`: how many there were, and
-/// whether those stood there.
+/// Reads the next bytes of the open file and writes them over `bytes` from index `at` on, up to `limit + 1` bytes in
+/// all. Returns how many there were, and whether the same bytes were already there.
 fn pull_next_over<S: Store>(
     store: &mut S,
     piece: &mut [u8],
@@ -146,7 +146,7 @@ fn pull_next_over<S: Store>(
     }
 }
 
-/// Cuts bytes after the first `at`, and returns whether that dropped none.
+/// Cuts `bytes` to its first `at`, and returns whether none was dropped.
 fn cut_at(bytes: &mut Vec<u8>, at: usize) -> bool
     ensures cut { bytes.new.items ≡ take at bytes.old.items }
     ensures whole { result ≡ true → bytes.new.items ≡ bytes.old.items }
@@ -156,7 +156,7 @@ fn cut_at(bytes: &mut Vec<u8>, at: usize) -> bool
     is_whole
 }
 
-/// The bytes of the file that is being read, at most one more than `limit`, in place of `bytes`; and whether those are the same.
+/// Reads the rest of the open file over `bytes`, up to `limit + 1` bytes. Returns whether `bytes` already was the file.
 fn pull_over<S: Store>(store: &mut S, bytes: &mut Vec<u8>, limit: usize) -> Result<bool, LoadFault>
     requires reading { S.is_reading store.old ≡ true }
     requires limit { limit < 2 ^ 32 }
@@ -184,7 +184,8 @@ fn pull_over<S: Store>(store: &mut S, bytes: &mut Vec<u8>, limit: usize) -> Resu
     Ok(cut_at(bytes, at) & is_expected)
 }
 
-/// `front`, and after it the bytes of a file, at most one more than `limit`, so that a longer file is noticed.
+/// Reads a file into a buffer that starts with `front`. Reads up to `limit + 1` bytes, so that callers see an oversized
+/// file.
 pub fn load_with_prefix<S: Store>(
     alloc: Global,
     store: &mut S,
@@ -199,12 +200,12 @@ pub fn load_with_prefix<S: Store>(
     ensures there { IsOk result → IsSome (S.files store.old)
         → IsSome (file_of (S.files store.old) name.now) }
 
-    // It changes nothing but what is being read.
+    // Only what is being read changes.
     ensures same { S.files store.new ≡ S.files store.old }
     ensures writing { S.is_writing store.new ≡ S.is_writing store.old }
     ensures target { S.target store.new ≡ S.target store.old }
 
-    // A call has failed, or the file isn't there. Where the bytes are returned, none has.
+    // The causes are a failed call and a missing file. If the bytes are returned, no call has failed.
     ensures steady { OnOk result (S.faults store.new ≡ S.faults store.old) }
     ensures later { S.faults store.old ≤ S.faults store.new }
     ensures failed { result ≡ Err LoadFault.Store
@@ -217,7 +218,7 @@ pub fn load_with_prefix<S: Store>(
     }
 }
 
-/// The bytes of a file, at most one more than `limit`, so that a longer file is noticed.
+/// Reads a file. Reads up to `limit + 1` bytes, so that callers see an oversized file.
 pub fn load<S: Store>(
     alloc: Global,
     store: &mut S,
@@ -230,12 +231,12 @@ pub fn load<S: Store>(
     ensures there { IsOk result → IsSome (S.files store.old)
         → IsSome (file_of (S.files store.old) name.now) }
 
-    // It changes nothing but what is being read.
+    // Only what is being read changes.
     ensures same { S.files store.new ≡ S.files store.old }
     ensures writing { S.is_writing store.new ≡ S.is_writing store.old }
     ensures target { S.target store.new ≡ S.target store.old }
 
-    // A call has failed, or the file isn't there. Where the bytes are returned, none has.
+    // The causes are a failed call and a missing file. If the bytes are returned, no call has failed.
     ensures steady { OnOk result (S.faults store.new ≡ S.faults store.old) }
     ensures later { S.faults store.old ≤ S.faults store.new }
     ensures failed { result ≡ Err LoadFault.Store
@@ -245,8 +246,9 @@ pub fn load<S: Store>(
     load_with_prefix(alloc, store, name, &[], limit)
 }
 
-/// Loads a file into `bytes`, at most one byte more than `limit`, so that a longer file is noticed. What `bytes` holds is what
-/// the file is expected to hold: as long as it does, nothing is copied. Returns whether the file held just that.
+/// Reads a file over `bytes`, which holds the bytes that the file is expected to have. Nothing is copied as long as
+/// they agree. Reads up to `limit + 1` bytes, so that callers see an oversized file. Returns whether `bytes` already
+/// was the file.
 pub fn load_over<S: Store>(
     store: &mut S,
     name: &str,
@@ -260,12 +262,12 @@ pub fn load_over<S: Store>(
     ensures there { IsOk result → IsSome (S.files store.old)
         → IsSome (file_of (S.files store.old) name.now) }
 
-    // It changes nothing but what is being read.
+    // Only what is being read changes.
     ensures same { S.files store.new ≡ S.files store.old }
     ensures writing { S.is_writing store.new ≡ S.is_writing store.old }
     ensures target { S.target store.new ≡ S.target store.old }
 
-    // A call has failed, or the file isn't there. Where the bytes are loaded, none has.
+    // The causes are a failed call and a missing file. If the file is loaded, no call has failed.
     ensures steady { OnOk result (S.faults store.new ≡ S.faults store.old) }
     ensures later { S.faults store.old ≤ S.faults store.new }
     ensures failed { result ≡ Err LoadFault.Store
@@ -278,7 +280,7 @@ pub fn load_over<S: Store>(
     }
 }
 
-/// Writes a whole file: opens it, puts the bytes at once, and closes it. The first call that fails ends it.
+/// Writes a whole file: opens it, writes all bytes in one put, and closes it. Stops at the first call that fails.
 pub fn write_file<S: Store>(store: &mut S, name: &str, bytes: &[u8]) -> Result<(), Failed>
     ensures ok { OnOk result (S.files store.new ≡ with_file (S.files store.old) name.now bytes.now) }
     ensures err { OnErr result ((S.files store.new ≡ S.files store.old)

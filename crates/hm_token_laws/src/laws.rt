@@ -4,31 +4,32 @@ ghost use Rattle.hm_token_laws.specs.Laws.{TokensAreSmall, TokensAreSound};
 ghost use Rattle.hm_token_laws.specs.Readings.{NextTokensExtend, PiecesAreRead, ReadingsFollow, WholePiecesAreRead, WholeReadingsExtend};
 ghost use Rattle.hm_token_laws.specs.Written.{CommentsAreNext, DoctypesAreNext, EndsAreNext, RawTextsAreNext, ScriptsAreNext, StartsAreNext, TextEndsAreNext};
 
-/// Each token that is read from the text of a page can stand in a tree that is written and read back. Its name is one
-/// that is read, its attributes can be written, its text is UTF-8 without zero byte.
+/// Each token that is read from the text of a page is allowed in a tree that is written and read back: its name is
+/// allowed, its attributes can be written, and its text is UTF-8 without a zero byte.
 pub fn tokens_are_sound()
     ensures { TokensAreSound }
 {}
 
-/// Each token stands for at most three times the bytes that it is read from.
+/// Each token gives at most three times as many bytes as it is read from.
 pub fn tokens_are_small()
     ensures { TokensAreSmall }
 {}
 
-/// A token that ends by itself is the same, whatever follows it.
+/// A token with its end is the same, whatever follows it.
 pub fn tokens_extend()
     ensures next { NextTokensExtend }
     ensures readings { WholeReadingsExtend }
 {}
 
-/// What is put together from written pieces is read piece by piece.
+/// Written pieces one after the other are read piece by piece.
 pub fn written_pieces_are_read()
     ensures follow { ReadingsFollow }
     ensures pieces { PiecesAreRead }
     ensures whole { WholePiecesAreRead }
 {}
 
-/// Whether a reference or a text stands as it is meant is decided by the bytes before the first one that can't go on.
+/// Whether a reference or a text is read as it was written is decided by the bytes up to the first one that can't
+/// continue it.
 pub fn text_is_decided()
     ensures references { ReferencesAreDecided }
     ensures texts { TextsAreDecided }
@@ -36,13 +37,13 @@ pub fn text_is_decided()
     ensures markup { MarkupEndsTexts }
 {}
 
-/// A text that is written piece by piece is read as it is meant.
+/// A text that is written piece by piece is read as that text.
 pub fn written_texts_are_read()
     ensures texts { TextsAreRead }
     ensures element_texts { ElementTextsAreRead }
 {}
 
-/// Written tags, comments and doctypes are the next token, whatever follows them (#tag-open-state to #bogus-doctype-state).
+/// A written tag, comment or doctype is the next token, whatever follows it (#tag-open-state to #bogus-doctype-state).
 pub fn written_markup_is_next()
     ensures starts { StartsAreNext }
     ensures ends { EndsAreNext }
@@ -50,7 +51,7 @@ pub fn written_markup_is_next()
     ensures doctypes { DoctypesAreNext }
 {}
 
-/// So are the text of `style`, `iframe` and `script` up to its end tag, and the end tag after a text
+/// The text of `style`, `iframe` and `script` up to its end tag is the next token, and so is the end tag after a text
 /// (#rcdata-less-than-sign-state to #script-data-double-escape-end-state).
 pub fn written_elements_are_next()
     ensures raw_texts { RawTextsAreNext }

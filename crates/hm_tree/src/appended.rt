@@ -1,4 +1,4 @@
-//! Attributes appended to the text and the attributes of a table.
+//! Appends attributes to the text and the attributes of a table.
 ghost use Rattle.std.specs.Prelude.{◌≡◌, ◌+◌, ◌^◌, ◌<◌, ◌≤◌, ◌++◌, length, string_bytes, string_len, string_capacity, vec_len, vec_capacity};
 ghost use Rattle.hm_base.specs.Walks.{attributes_size};
 ghost use Rattle.hm_tree.specs.Pairs.{IsShifted};
@@ -10,7 +10,7 @@ use crate::pieces::{AttributePieces, Pair, TextRange};
 use crate::sources::AttributeSource;
 use crate::{Attrs, AttrsView};
 
-// The bytes of names and values.
+/// The bytes of all names and values.
 #[inline(always)]
 pub(crate) fn text_len(attrs: &AttributeSource<'_>) -> usize
     requires { attributes_size (listed attrs.now) < 2 ^ 32 }
@@ -22,6 +22,7 @@ pub(crate) fn text_len(attrs: &AttributeSource<'_>) -> usize
     }
 }
 
+/// The bytes of all names and values of an element of a tree.
 fn shown_len(attrs: &AttrsView<'_>) -> usize
     requires { attributes_size (attributes_shown attrs.now) < 2 ^ 32 }
     ensures { result ≡ attributes_size (attributes_shown attrs.now) }
@@ -34,7 +35,7 @@ fn shown_len(attrs: &AttrsView<'_>) -> usize
     len
 }
 
-// Appends attributes for which there is room, and returns the index of the first.
+/// Appends attributes, and returns the index of the first. There is room for them.
 #[inline(always)]
 pub(crate) fn append_attributes(
     text: &mut String,
@@ -54,7 +55,7 @@ pub(crate) fn append_attributes(
     }
 }
 
-// Appends the attributes of a tag. Most tags have none.
+/// Appends the attributes of a tag. Most tags have none. There is room for them.
 #[inline(always)]
 fn append_tag(text: &mut String, attributes: &mut Vec<AttributePieces>, attrs: &Attrs) -> u32
     requires room { string_len text.old + attributes_size attrs.now ≤ string_capacity text.old }
@@ -70,7 +71,7 @@ fn append_tag(text: &mut String, attributes: &mut Vec<AttributePieces>, attrs: &
     append_pairs(text, attributes, attrs)
 }
 
-// The same, whose text is copied whole.
+/// Appends the attributes of a tag, and copies their text in one piece. There is room for them.
 #[inline(always)]
 fn append_pairs(text: &mut String, attributes: &mut Vec<AttributePieces>, attrs: &Attrs) -> u32
     requires room { string_len text.old + attributes_size attrs.now ≤ string_capacity text.old }
@@ -88,7 +89,7 @@ fn append_pairs(text: &mut String, attributes: &mut Vec<AttributePieces>, attrs:
     first
 }
 
-// The pieces of an attribute, `start` bytes further on.
+/// The pieces of an attribute, moved by `start` bytes of the table's text.
 fn shifted(pair: &Pair, start: u32) -> AttributePieces
     requires ordered { (pair.now.from ≤ pair.now.middle) × (pair.now.middle ≤ pair.now.to) }
     requires places { start + pair.now.to < 2 ^ 32 }
@@ -101,7 +102,7 @@ fn shifted(pair: &Pair, start: u32) -> AttributePieces
     }
 }
 
-// Appends the attributes of an element of a tree.
+/// Appends the attributes of an element of a tree. There is room for them.
 fn append_shown(
     text: &mut String,
     attributes: &mut Vec<AttributePieces>,
@@ -129,7 +130,7 @@ fn append_shown(
     first
 }
 
-// Appends a text for which there is room.
+/// Appends a text, and returns its place. There is room for it.
 #[inline(always)]
 pub(crate) fn append(text: &mut String, more: &str) -> TextRange
     requires room { string_len text.old + length more.now ≤ string_capacity text.old }

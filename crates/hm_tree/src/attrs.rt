@@ -13,10 +13,10 @@ use indexmap::IndexSet;
 use std::alloc::Global;
 use std::marker::Model;
 
-/// Names and values in order, each name once. Contracts see the list of them.
+/// Attributes of a start tag in order: a name and a value each. Names are distinct. Contracts see the list of them.
 ///
-/// They stand in one text, names and values one after the other. For more than 32 of them a table has the names, so
-/// that a repeated one is found at once.
+/// All are kept in one text, each name directly before its value. If there are more than 32, a set of the names finds a
+/// repeated one.
 #[derive(Drop)]
 pub struct Attrs {
     text: String,
@@ -79,7 +79,7 @@ impl Attrs {
         self.text.as_str()
     }
 
-    /// Where names and values stand in that text.
+    /// The places of the names and values in that text.
     pub(crate) fn pairs(&self) -> &[Pair]
         ensures pieces { All (HasPair (texts_of self.now)) result.now }
         ensures shown { attributes_of (texts_of self.now) result.now ≡ self.now }
@@ -87,8 +87,8 @@ impl Attrs {
         self.pairs.as_slice()
     }
 
-    /// Appends an attribute whose name isn't there yet, and says whether it did. Where memory is
-    /// refused, nothing changes.
+    /// Appends an attribute, unless its name is already there, and returns whether it did. If an allocation fails,
+    /// nothing changes.
     pub fn add(&mut self, name: String, value: String) -> Result<bool, OutOfMemory>
         requires room { has_name (string_bytes name) self.old ≡ false → length self.old + 1 < 2 ^ 32 }
         ensures there { IfOk result (λ added. added ≡ not (has_name (string_bytes name) self.old)) }
@@ -98,7 +98,7 @@ impl Attrs {
         self.put(name.as_str(), value.as_str())
     }
 
-    /// The same of texts that are copied.
+    /// As `add`, but copies the name and the value.
     pub fn put(&mut self, name: &str, value: &str) -> Result<bool, OutOfMemory>
         requires room { has_name name.now self.old ≡ false → length self.old + 1 < 2 ^ 32 }
         ensures there { IfOk result (λ added. added ≡ not (has_name name.now self.old)) }
@@ -119,7 +119,7 @@ impl Attrs {
         Ok(true)
     }
 
-    /// Takes all attributes away. The memory of their texts is kept for others.
+    /// Removes all attributes. The memory of their text is kept for the next ones.
     pub fn clear(&mut self)
         ensures { self.new ≡ [] }
     {
@@ -130,7 +130,7 @@ impl Attrs {
         }
     }
 
-    // Whether an attribute has this name.
+    /// Whether an attribute has this name.
     fn has(&self, name: &str) -> bool
         ensures { result ≡ has_name name.now self.now }
     {
@@ -143,7 +143,7 @@ impl Attrs {
     }
 }
 
-// Makes room for one more attribute, and notes its name.
+/// Makes room for one more attribute, and adds its name to the set of names.
 #[inline(always)]
 fn make_room(
     text: &mut String,
@@ -166,7 +166,7 @@ fn make_room(
     Ok(())
 }
 
-// Appends an attribute for which there is room.
+/// Appends an attribute. There is room for it.
 #[inline(always)]
 fn append_pair(text: &mut String, pairs: &mut Vec<Pair>, name: &str, value: &str)
     requires room { string_len text.old + (length name.now + length value.now) ≤ string_capacity text.old }

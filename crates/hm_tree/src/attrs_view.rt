@@ -1,9 +1,9 @@
-//! Attributes as a tree shows them.
+//! A view of the attributes of an element of a tree.
 ghost use Rattle.hm_tree.specs.Pieces.{ArePiecesShown};
 
 use crate::pieces::{AttributePieces, cut};
 
-/// The attributes of an element of a tree: names and values in order, each name once.
+/// A view of the attributes of an element of a tree, in order. Names are distinct.
 ///
 /// Contracts see the list of them as `attributes_shown`.
 #[derive(Clone, Copy)]
@@ -20,6 +20,7 @@ impl<'t> AttrsView<'t> {
     ghost use Rattle.hm_tree.specs.Pieces.{attributes_in};
     ghost use Rattle.hm_tree.specs.Views.{attributes_shown};
 
+    /// The view of these pieces of a text.
     pub(crate) fn of(text: &'t str, pieces: &'t [AttributePieces]) -> AttrsView<'t>
         requires { ArePiecesShown text.now pieces.now }
         ensures { attributes_shown result ≡ attributes_in text.now pieces.now }

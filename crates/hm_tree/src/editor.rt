@@ -1,4 +1,4 @@
-//! A tree gone through from its first event to its last, and changed in place.
+//! Editing a tree in place, from its first event to its last.
 ghost use Rattle.std.specs.Prelude.{◌≡◌, ◌+◌, ◌<◌, ◌≤◌, [], ◌++◌, length, slice_get, string_bytes, take, false, true, Some, option_map, MatchOption, IfSome, IfOk, OnOk, OnErr};
 ghost use Rattle.hm_base.specs.Walks.{begins_comment, begins_text, path_after};
 ghost use Rattle.hm_tree.specs.Edits as edits;
@@ -18,11 +18,11 @@ use crate::{EventView, Tree};
 use hm_base::OutOfMemory;
 use std::marker::Model;
 
-/// A tree whose events are gone through, each kept, changed or left out. Contracts see the events that are done and those
-/// that are left, which together are a tree's.
+/// A tree that is edited in place, from its first event to its last: each is kept, changed or left out. Contracts see
+/// the events that are done and those that are left, which together are a tree's.
 ///
-/// Rows move to the front. A text that changes becomes a part of itself, or stands after all bytes that are there: only
-/// that takes memory.
+/// Rows move to the front. A changed text is a part of the old one, or is appended after all bytes of the table, which
+/// alone takes memory.
 #[derive(Drop)]
 pub struct Editor {
     text: String,
@@ -47,6 +47,7 @@ impl Model for Editor {
 }
 
 impl Editor {
+    /// Starts at the first event of a table.
     pub(crate) fn of(table: EventTable) -> Editor
         requires { IsMade table }
         ensures { result ≡ record { done = []; left = table } }
@@ -90,7 +91,7 @@ impl Editor {
         show(self.text.as_str(), self.attributes.as_slice(), row.part)
     }
 
-    /// The event that stands `count` events after the next one.
+    /// The event that is `count` events after the next one, if there is one.
     pub fn ahead(&self, count: u32) -> Option<EventView<'_>>
         requires { 0 < length self.now.left }
         ensures { option_map event_of result ≡ slice_get self.now.left count }
@@ -113,13 +114,13 @@ impl Editor {
         show(self.text.as_str(), self.attributes.as_slice(), row.part)
     }
 
-    /// The last start that is open directly before event `i` of those that are done, or before the next event.
+    /// The start of the innermost element that is open directly before event `i`, one of those that are done or the
+    /// next one.
     pub fn parent(&self, i: u32) -> Option<u32>
         requires { i ≤ length self.now.done }
         ensures value { result ≡ parent_of self.now.done i }
 
-        // Where no element is open there, the result is none; otherwise it is an earlier event, the start of the
-        // innermost one.
+        // None if no element is open there. Otherwise the start is an earlier event.
         ensures element { MatchOption result (path_after [] (take i self.now.done) ≡ [])
             (λ k. (k < i) × IsStartAt self.now.done k (path_after [] (take i self.now.done))) }
     {
@@ -130,7 +131,7 @@ impl Editor {
         }
     }
 
-    /// The next event is done as it is.
+    /// Keeps the next event as it is.
     pub fn keep(&mut self)
         requires { 0 < length self.old.left }
         ensures { self.new ≡ kept self.old.done self.old.left }
@@ -146,7 +147,7 @@ impl Editor {
         self.next += 1;
     }
 
-    /// Leaves out the next event, a text.
+    /// Leaves out the next event, which is a text.
     pub fn leave_out(&mut self)
         requires { begins_text self.old.left ≡ true }
         ensures { self.new ≡ record { done = self.old.done; left = without_first self.old.left } }
@@ -154,7 +155,7 @@ impl Editor {
         self.next += 1;
     }
 
-    /// Leaves out the next event, a comment. No text stands directly before it.
+    /// Leaves out the next event, which is a comment. The event before it isn't a text.
     pub fn leave_out_comment(&mut self)
         requires comment { begins_comment self.old.left ≡ true }
         requires apart { ends_in_text self.old.done ≡ false }
@@ -163,7 +164,7 @@ impl Editor {
         self.next += 1;
     }
 
-    /// Makes the next event, a doctype, the plain one.
+    /// Makes the next event, a doctype, one that isn't legacy.
     pub fn make_plain(&mut self)
         requires { begins_doctype self.old.left ≡ true }
         ensures { self.new ≡ record { done = self.old.done; left = with_plain_doctype self.old.left } }
@@ -175,7 +176,7 @@ impl Editor {
         };
     }
 
-    /// Leaves out attribute `at` of the next event, a start.
+    /// Leaves out attribute `at` of the next event, which is a start.
     pub fn leave_out_attribute(&mut self, at: u32)
         requires { HasAttribute self.old.left at }
         ensures { self.new ≡ record { done = self.old.done; left = with_attributes (λ attributes. remove attributes at) self.old.left } }
@@ -191,7 +192,7 @@ impl Editor {
         }
     }
 
-    /// Leaves out the value of attribute `at` of the next event, a start.
+    /// Leaves out the value of attribute `at` of the next event, which is a start.
     pub fn leave_out_value(&mut self, at: u32)
         requires { HasAttribute self.old.left at }
         ensures { self.new ≡ record { done = self.old.done; left = with_attributes (without_value at) self.old.left } }
@@ -202,7 +203,7 @@ impl Editor {
         }
     }
 
-    /// Puts a text in place of the next event, a text, and of the `count` texts and comments after it.
+    /// Replaces the next event, a text, and the `count` texts and comments after it by one text.
     pub fn join(&mut self, count: u32, text: &str) -> Result<(), OutOfMemory>
         requires { IsJoined self.old.left count text.now }
         ensures ok { OnOk result (self.new ≡ record { done = self.old.done; left = with_joined count text.now self.old.left }) }
@@ -221,7 +222,7 @@ impl Editor {
         Ok(())
     }
 
-    /// Of the next event, a text, only the bytes from `from` up to `to` are left.
+    /// Cuts the next event, a text, to its bytes from `from` up to `to`.
     pub fn cut_text(&mut self, from: usize, to: usize)
         requires { IsCut self.old.left from to }
         ensures { self.new ≡ record { done = self.old.done; left = with_first_cut from to self.old.left } }
@@ -240,7 +241,7 @@ impl Editor {
         }
     }
 
-    /// Puts a text that isn't longer in place of the next event, a text.
+    /// Replaces the next event, a text, by a text that isn't longer.
     pub fn put_text(&mut self, text: &str) -> Result<(), OutOfMemory>
         requires { IsShorter self.old.left text.now }
         ensures ok { OnOk result (self.new ≡ record { done = self.old.done; left = with_first_text text.now self.old.left }) }
@@ -259,7 +260,7 @@ impl Editor {
         Ok(())
     }
 
-    /// The tree of the events that are done.
+    /// The tree of the events that are done. None are left.
     pub fn finish(self) -> Tree
         requires { self.left ≡ [] }
         ensures { result ≡ self.done }
@@ -278,7 +279,7 @@ impl Editor {
     }
 }
 
-// The innermost start that is open after row `at`, where `parent` is that before it.
+/// The start of the innermost element that is open after row `at`. `parent` is the one before that row.
 fn parent_after(rows: &[EventRow], parent: Option<u32>, part: RowPart, at: u32) -> Option<u32>
     requires { IfSome parent (λ k. k < length rows.now) }
     ensures { result ≡ edits.parent_after rows.now parent part at }
@@ -293,7 +294,7 @@ fn parent_after(rows: &[EventRow], parent: Option<u32>, part: RowPart, at: u32) 
     }
 }
 
-// Appends a text after all bytes that are there.
+/// Appends a text after all bytes of the table, and returns its place.
 #[inline(always)]
 fn append_last(text: &mut String, more: &str) -> Result<TextRange, OutOfMemory>
     ensures bytes { OnOk result (string_bytes text.new ≡ string_bytes text.old ++ more.now) }

@@ -30,7 +30,7 @@ pub enum EventView<'t> {
 }
 
 impl EventView<'_> {
-    /// Whether the views show the same event.
+    /// Whether both views show the same event.
     pub fn same(&self, other: &EventView<'_>) -> bool
         ensures { IsTrue result ↔ (event_of self.now ≡ event_of other.now) }
     {
@@ -47,6 +47,7 @@ impl EventView<'_> {
         }
     }
 
+    /// Whether this is a doctype with this value of `legacy`.
     fn is_doctype(&self, legacy: bool) -> bool
         ensures { IsTrue result ↔ (event_of self.now ≡ walks.doctype legacy) }
     {
@@ -56,6 +57,7 @@ impl EventView<'_> {
         }
     }
 
+    /// Whether this is a start with this name and these attributes. `foreign` is true in SVG.
     fn is_start(&self, name: &str, foreign: bool, attrs: &AttrsView<'_>) -> bool
         ensures { IsTrue result ↔ (event_of self.now ≡ walks.start name.now foreign (attributes_shown attrs.now)) }
     {
@@ -69,6 +71,7 @@ impl EventView<'_> {
         }
     }
 
+    /// Whether this is a text with these bytes. `raw` is true in elements whose text has no character references.
     fn is_text(&self, text: &str, raw: bool) -> bool
         ensures { IsTrue result ↔ (event_of self.now ≡ walks.text text.now raw) }
     {
@@ -81,6 +84,7 @@ impl EventView<'_> {
         }
     }
 
+    /// Whether this is a comment with this text.
     fn is_comment(&self, text: &str) -> bool
         ensures { IsTrue result ↔ (event_of self.now ≡ walks.comment text.now) }
     {
@@ -90,6 +94,7 @@ impl EventView<'_> {
         }
     }
 
+    /// Whether this is an end with this name. `foreign` is true in SVG.
     fn is_end(&self, name: &str, foreign: bool) -> bool
         ensures { IsTrue result ↔ (event_of self.now ≡ walks.end name.now foreign) }
     {

@@ -12,7 +12,7 @@ use hm_base::OutOfMemory;
 use std::alloc::Global;
 use std::marker::Model;
 
-/// A tree that is being made. Contracts see the list of its events so far.
+/// Makes a tree, event by event. Contracts see the list of its events so far.
 #[derive(Drop)]
 pub struct Maker {
     rows: Rows,
@@ -34,6 +34,7 @@ impl Model for Maker {
 }
 
 impl Maker {
+    /// No events. It allocates nothing until one is added.
     pub(crate) fn new(alloc: Global) -> Maker
         ensures { result ≡ [] }
     {
@@ -50,7 +51,7 @@ impl Maker {
         ensures depth { result ≡ length (path_after [] self.now) }
         ensures begun { IsBegun self.now }
     {
-        // The length of the table comes with what is true of each of its events.
+        // Asked only for its contract: what is true of each event of the table.
         let _len = self.rows.len();
         self.depth
     }
@@ -65,7 +66,8 @@ impl Maker {
         Ok(())
     }
 
-    /// Appends the start of an element, which is then open. One with more than 65,535 attributes is refused as memory is.
+    /// Appends the start of an element, which then is open. With more than 65,535 attributes it fails with
+    /// `OutOfMemory`.
     pub fn start(&mut self, name: &str, foreign: bool, attrs: Attrs) -> Result<(), OutOfMemory>
         requires { HasRoom (self.old ++ start name.now foreign attrs ∷ []) }
         ensures ok { OnOk result (self.new ≡ self.old ++ start name.now foreign attrs ∷ []) }
@@ -74,7 +76,7 @@ impl Maker {
         self.start_from(name, foreign, &attrs)
     }
 
-    /// The same with attributes that the caller keeps.
+    /// Appends the start of an element, as `start`. The attributes stay with the caller.
     pub fn start_from(
         &mut self,
         name: &str,
@@ -88,7 +90,7 @@ impl Maker {
         self.start_of(name, foreign, &AttributeSource::Tag { attrs })
     }
 
-    /// The same with the attributes of an element of another tree.
+    /// Appends the start of an element, as `start`, with the attributes of an element of another tree.
     pub fn start_as(
         &mut self,
         name: &str,
@@ -102,6 +104,8 @@ impl Maker {
         self.start_of(name, foreign, &AttributeSource::Element { attrs: *attrs })
     }
 
+    /// Appends the start of an element, with attributes of either kind. With more than 65,535 it fails with
+    /// `OutOfMemory`.
     #[inline(always)]
     fn start_of(
         &mut self,
@@ -120,8 +124,8 @@ impl Maker {
         Ok(())
     }
 
-    /// Appends a text to what is there (HTML Standard, #creating-and-inserting-nodes). It joins a text that stands last, and an
-    /// empty one adds nothing.
+    /// Appends a text (HTML Standard, #creating-and-inserting-nodes). Directly after another text it becomes part of
+    /// that one. An empty text adds nothing.
     pub fn text(&mut self, text: &str, raw: bool) -> Result<(), OutOfMemory>
         requires room { HasRoom (with_text self.old text.now raw) }
         requires same_raw { last_agrees self.old raw ≡ true }
@@ -157,7 +161,7 @@ impl Maker {
         Ok(())
     }
 
-    /// The tree of these events.
+    /// The tree of these events. No element is open.
     pub fn finish(self) -> Tree
         requires { path_after [] self ≡ [] }
         ensures { result ≡ self }

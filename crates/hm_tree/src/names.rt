@@ -1,4 +1,4 @@
-//! Names of attributes: whether one is there.
+//! Whether an attribute of some name is there.
 ghost use Rattle.std.specs.Prelude.{◌≡◌, ◌++◌, ◌∷◌, [], List, bytes_eq, All, IfSome, IfOk, OnOk, OnErr};
 ghost use Rattle.hm_base.specs.Walks.{Attribute, has_name};
 ghost use Rattle.hm_tree.specs.Names.{HasNames};
@@ -9,10 +9,10 @@ use hm_base::OutOfMemory;
 use indexmap::IndexSet;
 use std::alloc::Global;
 
-// How many names are looked at one by one. Where there are more, a table has them.
+/// Up to this many names are compared one by one. More are kept in a set.
 const FEW: usize = 32;
 
-// Adds a name to a table.
+/// Adds a name to a set.
 fn add(table: &mut IndexSet<String>, name: &str) -> Result<(), OutOfMemory>
     ensures ok { OnOk result ((attributes : List Attribute) (a : Attribute) → a.name ≡ name.now → HasNames table.old attributes → HasNames table.new (attributes ++ a ∷ [])) }
     ensures err { OnErr result ((attributes : List Attribute) → HasNames table.old attributes → HasNames table.new attributes) }
@@ -23,7 +23,7 @@ fn add(table: &mut IndexSet<String>, name: &str) -> Result<(), OutOfMemory>
     Ok(())
 }
 
-// Whether names are the same. Most that aren't differ in their lengths or their last bytes.
+/// Whether two names are the same. Most names that aren't have another length or another last byte.
 fn is_same(name: &str, other: &str) -> bool
     ensures { result ≡ bytes_eq name.now other.now }
 {
@@ -37,7 +37,7 @@ fn is_same(name: &str, other: &str) -> bool
     name == other
 }
 
-// Whether one of the attributes has a name.
+/// Whether one of the attributes has a name.
 pub(crate) fn has_among(text: &str, pairs: &[Pair], name: &str) -> bool
     requires { All (HasPair text.now) pairs.now }
     ensures { result ≡ has_name name.now (attributes_of text.now pairs.now) }
@@ -50,7 +50,7 @@ pub(crate) fn has_among(text: &str, pairs: &[Pair], name: &str) -> bool
     false
 }
 
-// A table of the names of the attributes.
+/// The set of the names of the attributes.
 fn table_of(alloc: Global, text: &str, pairs: &[Pair]) -> Result<IndexSet<String>, OutOfMemory>
     requires { All (HasPair text.now) pairs.now }
     ensures { IfOk result (λ table. HasNames table (attributes_of text.now pairs.now)) }
@@ -62,7 +62,7 @@ fn table_of(alloc: Global, text: &str, pairs: &[Pair]) -> Result<IndexSet<String
     Ok(table)
 }
 
-// The same with the name of one more attribute, after these.
+/// The set of the names of the attributes and of one more name.
 #[inline(always)]
 fn table_with(
     alloc: Global,
@@ -78,7 +78,7 @@ fn table_with(
     Ok(table)
 }
 
-// Notes the name of one more attribute, after these.
+/// Notes the name of one more attribute: makes the set if there are more than `FEW` names, or adds the name to it.
 pub(crate) fn note(
     alloc: Global,
     table: &mut Option<IndexSet<String>>,

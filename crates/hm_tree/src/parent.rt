@@ -1,9 +1,9 @@
-//! The start that an event stands under.
+//! The start of the element that an event is in.
 ghost use Rattle.std.specs.Prelude.{◌≡◌, ◌≢◌, Some};
 
 use std::marker::Model;
 
-/// The index of an event, or none, in four bytes.
+/// The index of an event, or None, in four bytes.
 #[derive(Clone, Copy)]
 pub(crate) struct Parent {
     at: u32,
@@ -24,7 +24,7 @@ impl Model for Parent {
 }
 
 impl Parent {
-    /// No table has so many events that the greatest number is the index of one.
+    /// None is the greatest number. No table has so many events that it is an index.
     pub(crate) fn of(parent: Option<u32>) -> Parent
         requires { parent ≢ Some 4294967295 }
         ensures { result ≡ parent }
@@ -35,6 +35,7 @@ impl Parent {
         }
     }
 
+    /// The index, if there is one.
     pub(crate) fn index(self) -> Option<u32>
         ensures { result ≡ self }
     {

@@ -4,15 +4,15 @@ ghost use Rattle.hm_tree.specs.Pairs.{HasPair, pieces_of};
 ghost use Rattle.hm_tree.specs.Pieces.{IsPiece, bytes_of, name_of, value_of};
 ghost use Rattle.hm_tree.specs.Starts.{name_from};
 
-// The bytes of a text from one place up to another.
+/// The bytes of a text from one place up to another.
 #[derive(Clone, Copy)]
 pub(crate) struct TextRange {
     pub(crate) from: u32,
     pub(crate) to: u32,
 }
 
-// Where an attribute stands in the table's text: its name from one place up to the second, and its value from there up to
-// the third.
+/// The place of an attribute in the table's text: its name from the first byte up to the second, and its value from
+/// there up to the third.
 #[derive(Clone, Copy)]
 pub(crate) struct AttributePieces {
     pub(crate) from: u32,
@@ -21,6 +21,7 @@ pub(crate) struct AttributePieces {
 }
 
 impl AttributePieces {
+    /// The place of the name.
     pub(crate) fn name(self) -> TextRange
         ensures { result ≡ name_of self }
     {
@@ -30,6 +31,7 @@ impl AttributePieces {
         }
     }
 
+    /// The place of the value.
     pub(crate) fn value(self) -> TextRange
         ensures { result ≡ value_of self }
     {
@@ -40,7 +42,7 @@ impl AttributePieces {
     }
 }
 
-// Where an attribute of a tag stands in the text of its attributes, in the same way.
+/// The place of an attribute of a tag in the text of the tag's attributes: as `AttributePieces`.
 #[derive(Clone, Copy)]
 pub(crate) struct Pair {
     pub(crate) from: usize,
@@ -48,7 +50,7 @@ pub(crate) struct Pair {
     pub(crate) to: usize,
 }
 
-// The bytes of a piece.
+/// The bytes of a piece.
 pub(crate) fn cut(text: &str, piece: TextRange) -> &str
     requires { IsPiece text.now piece }
     ensures { result.now ≡ bytes_of text.now piece }
@@ -56,7 +58,7 @@ pub(crate) fn cut(text: &str, piece: TextRange) -> &str
     &text[piece.from as usize..piece.to as usize]
 }
 
-// The bytes of a name of so many bytes.
+/// The bytes of a name of `len` bytes that starts at byte `from`.
 pub(crate) fn cut_short(text: &str, from: u32, len: u8) -> &str
     requires { IsPiece text.now (name_from from len) }
     ensures { result.now ≡ bytes_of text.now (name_from from len) }
@@ -65,7 +67,7 @@ pub(crate) fn cut_short(text: &str, from: u32, len: u8) -> &str
     &text[from..from + usize::from(len)]
 }
 
-// The name of an attribute.
+/// The name of an attribute.
 pub(crate) fn name_in(text: &str, pair: Pair) -> &str
     requires { HasPair text.now pair }
     ensures { result.now ≡ bytes_of text.now (name_of (pieces_of pair)) }
@@ -73,7 +75,7 @@ pub(crate) fn name_in(text: &str, pair: Pair) -> &str
     &text[pair.from..pair.middle]
 }
 
-// The value of an attribute.
+/// The value of an attribute.
 pub(crate) fn value_in(text: &str, pair: Pair) -> &str
     requires { HasPair text.now pair }
     ensures { result.now ≡ bytes_of text.now (value_of (pieces_of pair)) }

@@ -17,14 +17,14 @@ use hm_base::OutOfMemory;
 use std::alloc::Global;
 use std::marker::Model;
 
-// An event, with pieces of the table's text, and for a start the index of its first attribute and how many there are. What
-// takes less than four bytes stands first, beside the variant's mark, where it makes no row longer.
+/// An event. Its name and texts are pieces of the table's text; a start has the index of its first attribute and their
+/// number. Fields of less than four bytes come first, beside the byte for the variant, if that makes the row no longer.
 #[derive(Clone, Copy)]
 pub(crate) enum RowPart {
     Doctype {
         legacy: bool,
     },
-    // A start whose name has `len` bytes, from the place `from` on.
+    /// A start. Its name has `len` bytes from byte `from` on.
     Start {
         foreign: bool,
         len: u8,
@@ -32,7 +32,8 @@ pub(crate) enum RowPart {
         from: u32,
         first: u32,
     },
-    // A start for whose name or attributes a byte is too little. Its name is the piece directly before its attributes.
+    /// A start whose name has more than 255 bytes or that has more than 255 attributes. Its name is the piece directly
+    /// before its attributes.
     LongStart {
         foreign: bool,
         count: u16,
@@ -51,19 +52,19 @@ pub(crate) enum RowPart {
     },
 }
 
-// An event, and the last start that is open directly before it.
+/// An event, and the start of the innermost element that is open directly before it.
 #[derive(Clone, Copy)]
 pub(crate) struct EventRow {
     pub(crate) part: RowPart,
     pub(crate) parent: Parent,
 }
 
-// A page has many events and attributes, so their sizes are checked here.
+/// A page has many events and attributes, so their sizes in bytes are checked here.
 const _: () = prove!(size_of::<EventRow>() == 16);
 
 const _: () = prove!(size_of::<AttributePieces>() == 12);
 
-// A list of events.
+/// A list of events that grows.
 #[derive(Drop)]
 pub(crate) struct Rows {
     text: String,
@@ -85,6 +86,7 @@ impl Model for Rows {
 }
 
 impl Rows {
+    /// No events. It allocates nothing.
     pub(crate) fn new(alloc: Global) -> Rows
         ensures { result ≡ [] }
     {
@@ -95,6 +97,7 @@ impl Rows {
         }
     }
 
+    /// How many events there are.
     pub(crate) fn len(&self) -> u32
         ensures len { result ≡ length self.now }
         ensures told { IsTold self.now }
@@ -102,7 +105,7 @@ impl Rows {
         self.rows.len() as u32
     }
 
-    // The table of these events, with no room to spare.
+    /// The table of these events. Its lists have no room to spare.
     pub(crate) fn finish(self) -> EventTable
         ensures { result ≡ self }
     {
@@ -117,6 +120,7 @@ impl Rows {
         EventTable::of(text, attributes, rows)
     }
 
+    /// The start of the innermost element that is open directly before event `i`.
     pub(crate) fn parent(&self, i: u32) -> Option<u32>
         requires { i < length self.now }
         ensures { result ≡ parent_of self.now i }
@@ -124,6 +128,7 @@ impl Rows {
         self.rows[i as usize].parent.index()
     }
 
+    /// Appends a doctype. `parent` is the innermost open element.
     pub(crate) fn push_doctype(
         &mut self,
         legacy: bool,
@@ -140,8 +145,8 @@ impl Rows {
         Ok(())
     }
 
-    // A start with more than 65,535 attributes is refused as memory is, since its row has two bytes for their number. A tag
-    // that is read has at most 256.
+    /// Appends a start. A row has two bytes for the number of attributes, so with more than 65,535 it fails with
+    /// `OutOfMemory`. A tag that is read has at most 256.
     #[inline(always)]
     pub(crate) fn push_start(
         &mut self,
@@ -176,6 +181,7 @@ impl Rows {
         Ok(())
     }
 
+    /// Appends a text. `parent` is the innermost open element.
     pub(crate) fn push_text(
         &mut self,
         text: &str,
@@ -196,6 +202,7 @@ impl Rows {
         Ok(())
     }
 
+    /// Appends a comment. `parent` is the innermost open element.
     pub(crate) fn push_comment(
         &mut self,
         text: &str,
@@ -215,7 +222,7 @@ impl Rows {
         Ok(())
     }
 
-    // Joins a text that stands last, or appends one; an empty text adds nothing.
+    /// Adds a text to the last event if that is a text, or else appends it as an event. An empty text adds nothing.
     #[tactic(auto, using(crate::proofs::TextLemmas::texts))]
     pub(crate) fn put_text(
         &mut self,
@@ -240,7 +247,7 @@ impl Rows {
         }
     }
 
-    // Whether a text stands last.
+    /// Whether the last event is a text.
     fn ends_in_text(&self) -> bool
         ensures { result ≡ ends_in_text self.now }
     {
@@ -250,7 +257,7 @@ impl Rows {
         }
     }
 
-    // Joins the text that stands last.
+    /// Adds to the text of the last event.
     fn extend_text(&mut self, more: &str) -> Result<(), OutOfMemory>
         requires ends { ends_in_text self.old ≡ true }
         requires bytes { walk_size self.old + length more.now < 2 ^ 29 }
@@ -275,7 +282,7 @@ impl Rows {
         Ok(())
     }
 
-    // Puts the end of the innermost open element, whose start is event `start`.
+    /// Appends the end of the innermost open element, whose start is event `start`.
     pub(crate) fn push_end(&mut self, start: u32) -> Result<(), OutOfMemory>
         requires room { length self.old + 1 < 2 ^ 29 }
         requires parent { Some start ≡ innermost self.old }
@@ -290,7 +297,7 @@ impl Rows {
     }
 }
 
-// Makes room for a row and for so many bytes.
+/// Makes room for one row and for `bytes` bytes of text.
 #[inline(always)]
 fn row_room(text: &mut String, rows: &mut Vec<EventRow>, bytes: usize) -> Result<(), OutOfMemory>
     ensures kept { (string_bytes text.new ≡ string_bytes text.old) × (rows.new.items ≡ rows.old.items) }
@@ -301,7 +308,7 @@ fn row_room(text: &mut String, rows: &mut Vec<EventRow>, bytes: usize) -> Result
     Ok(())
 }
 
-// Makes room for a start, and returns how many attributes it has.
+/// Makes room for a start, and returns how many attributes it has.
 #[inline(always)]
 fn start_room(
     text: &mut String,

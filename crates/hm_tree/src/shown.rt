@@ -7,7 +7,7 @@ use crate::pieces::{AttributePieces, cut, cut_short};
 use crate::rows::RowPart;
 use crate::{AttrsView, EventView};
 
-// The event that a row stands for, with the text and the attributes of its table.
+/// The event of a row. `text` and `attributes` are those of its table.
 pub(crate) fn show<'t>(
     text: &'t str,
     attributes: &'t [AttributePieces],
@@ -52,7 +52,7 @@ pub(crate) fn show<'t>(
     }
 }
 
-// `count` of the attributes, from the index `first` on.
+/// `count` of the attributes, from index `first` on.
 fn part_of(attributes: &[AttributePieces], first: u32, count: u16) -> &[AttributePieces]
     requires { first + count ≤ length attributes.now }
     ensures { result.now ≡ slice_range attributes.now first (first + count) }

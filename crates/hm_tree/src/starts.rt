@@ -1,5 +1,5 @@
-//! The rows of starts. The length of the name and the number of attributes take a byte each; where that is too little, the
-//! name is a piece of the list of attributes, directly before the start's own.
+//! The rows of starts. The length of the name and the number of attributes take a byte each. If that is too little, the
+//! name is a piece in the list of attributes, directly before the start's own.
 ghost use Rattle.std.specs.Prelude.{◌≡◌, ◌+◌, ◌^◌, ◌<◌, ◌≤◌, true, length, string_bytes, string_len, string_capacity, vec_len, vec_capacity, IfSome, IfOk, OnErr};
 ghost use Rattle.hm_base.specs.Walks.{attributes_size};
 ghost use Rattle.hm_tree.specs.Attributes.{are_texts};
@@ -14,14 +14,14 @@ use crate::rows::RowPart;
 use crate::sources::AttributeSource;
 use hm_base::OutOfMemory;
 
-// The index of a start's first attribute, and how many it has.
+/// The index of a start's first attribute, and how many it has.
 #[derive(Clone, Copy)]
 pub(crate) struct AttributeRange {
     pub(crate) first: u32,
     pub(crate) count: u16,
 }
 
-// The attributes of a row, where it is a start.
+/// The attributes of a row, if it is a start.
 #[inline(always)]
 pub(crate) fn own_of(part: RowPart) -> Option<AttributeRange>
     ensures { result ≡ parts.own_of part }
@@ -36,7 +36,7 @@ pub(crate) fn own_of(part: RowPart) -> Option<AttributeRange>
     }
 }
 
-// The same start with one attribute fewer.
+/// The same start without its last attribute.
 pub(crate) fn fewer(part: RowPart) -> RowPart
     requires { IfSome (parts.own_of part) (λ own. 0 < own.count) }
     ensures { result ≡ parts.fewer part }
@@ -71,7 +71,7 @@ pub(crate) fn fewer(part: RowPart) -> RowPart
     }
 }
 
-// The end of a start.
+/// The end of the element of a start.
 #[inline(always)]
 pub(crate) fn end_part(attributes: &[AttributePieces], part: RowPart) -> RowPart
     requires { HasName attributes.now part }
@@ -98,7 +98,7 @@ pub(crate) fn end_part(attributes: &[AttributePieces], part: RowPart) -> RowPart
     }
 }
 
-// Appends the name and the attributes of a start, for which there is room, and returns its row.
+/// Appends the name and the attributes of a start, and returns its row. There is room for them.
 #[inline(always)]
 pub(crate) fn start_part(
     text: &mut String,
@@ -132,14 +132,14 @@ pub(crate) fn start_part(
     })
 }
 
-// Whether a byte is enough for each.
+/// Whether the length of a name and the number of attributes each fit in a byte.
 fn is_short(len: usize, count: u16) -> bool
     ensures { result ≡ true → (len < 256) × (count < 256) }
 {
     len < 256 && count < 256
 }
 
-// Does the same with a piece for the name, which takes room for one more.
+/// As `start_part`, but with the name as a piece in the list of attributes, which takes room for one more.
 fn long_part(
     text: &mut String,
     attributes: &mut Vec<AttributePieces>,

@@ -13,7 +13,7 @@ use crate::shown::show;
 use crate::starts::own_of;
 use std::marker::Model;
 
-// A list of events. Bytes and attributes may be there that no row points at.
+/// A list of events. Some bytes and attributes may belong to no row.
 #[derive(Drop)]
 pub(crate) struct EventTable {
     pub(crate) text: String,
@@ -35,6 +35,7 @@ impl Model for EventTable {
 }
 
 impl EventTable {
+    /// The table of these rows.
     pub(crate) fn of(
         text: String,
         attributes: Vec<AttributePieces>,
@@ -50,6 +51,7 @@ impl EventTable {
         }
     }
 
+    /// How many events there are.
     pub(crate) fn len(&self) -> u32
         ensures len { result ≡ length self.now }
         ensures told { IsTold self.now }
@@ -57,7 +59,7 @@ impl EventTable {
         self.rows.len() as u32
     }
 
-    // Frees the memory. The lists are cut short in place before they are freed.
+    /// Frees the memory. The lists are shortened in place first: see `SourceText::release`.
     pub(crate) fn release(self) {
         let EventTable {
             mut text,
@@ -72,6 +74,7 @@ impl EventTable {
         rows.shrink_to(1);
     }
 
+    /// Event `i`.
     pub(crate) fn event(&self, i: u32) -> EventView<'_>
         requires { i < length self.now }
         ensures { slice_get self.now i ≡ Some (event_of result) }
@@ -80,6 +83,7 @@ impl EventTable {
         show(self.text.as_str(), self.attributes.as_slice(), row.part)
     }
 
+    /// The start of the innermost element that is open directly before event `i`.
     pub(crate) fn parent(&self, i: u32) -> Option<u32>
         requires { i < length self.now }
         ensures { result ≡ parent_of self.now i }
@@ -87,7 +91,7 @@ impl EventTable {
         self.rows[i as usize].parent.index()
     }
 
-    // Puts attribute `at` of event `i` after the others of its tag, where it has that attribute.
+    /// Moves attribute `at` of event `i` after the others of its tag. Nothing changes if there is no such attribute.
     pub(crate) fn put_last(&mut self, i: u32, at: u32)
         requires { i < length self.old }
         ensures { self.new ≡ put_last self.old i at }
@@ -101,7 +105,7 @@ impl EventTable {
     }
 }
 
-// Puts the attribute at a place after the others.
+/// Moves the attribute at index `at` after the others.
 fn move_last(attributes: &mut [AttributePieces], at: usize)
     requires { at < length attributes.old }
     ensures { attributes.new ≡ moved at attributes.old }
@@ -109,7 +113,7 @@ fn move_last(attributes: &mut [AttributePieces], at: usize)
     attributes[at..].rotate_left(1);
 }
 
-// Does so with one of `count` of the attributes, from the index `first` on.
+/// As `move_last`, with index `at` among `count` attributes from index `first` on.
 pub(crate) fn move_in_part(attributes: &mut Vec<AttributePieces>, first: u32, count: u16, at: u32)
     requires inside { first + count ≤ length attributes.old.items }
     requires there { at < count }
@@ -122,7 +126,7 @@ pub(crate) fn move_in_part(attributes: &mut Vec<AttributePieces>, first: u32, co
     );
 }
 
-// Leaves out the value of the attribute at a place.
+/// Leaves out the value of the attribute at index `at`.
 fn empty_at(attributes: &mut [AttributePieces], at: usize)
     requires { at < length attributes.old }
     ensures { attributes.new ≡ emptied at attributes.old }
@@ -130,7 +134,7 @@ fn empty_at(attributes: &mut [AttributePieces], at: usize)
     attributes[at].to = attributes[at].middle;
 }
 
-// Does so with one of `count` of the attributes, from the index `first` on.
+/// As `empty_at`, with index `at` among `count` attributes from index `first` on.
 pub(crate) fn empty_in_part(attributes: &mut Vec<AttributePieces>, first: u32, count: u16, at: u32)
     requires inside { first + count ≤ length attributes.old.items }
     requires there { at < count }

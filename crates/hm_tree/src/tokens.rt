@@ -27,7 +27,7 @@ pub enum Token {
         from: u32,
         to: u32,
     },
-    /// What a character reference stands for.
+    /// The code points of a character reference.
     Points {
         points: Points,
     },
@@ -46,7 +46,7 @@ pub struct Spanned {
     pub to: u32,
 }
 
-/// The name and the attributes of a tag: a place that is used again for tag after tag.
+/// The name and the attributes of a tag. It is used again for each tag.
 #[derive(Drop)]
 pub struct Tag {
     pub name: String,
@@ -54,7 +54,7 @@ pub struct Tag {
 }
 
 impl Tag {
-    /// A place without name and attributes. It allocates nothing until a tag is put there.
+    /// No name and no attributes. It allocates nothing until a tag is put there.
     pub fn new(alloc: Global) -> Tag
         ensures name { string_bytes result.name ≡ [] }
         ensures attrs { result.attrs ≡ [] }
@@ -65,7 +65,7 @@ impl Tag {
         }
     }
 
-    // The start tag with this name and these attributes.
+    /// The start tag with this name and these attributes.
     #[inline(always)]
     fn start(self, slash: bool) -> Token
         ensures { result ≡ token_of (lexemes.StartTag slash) self }
@@ -78,7 +78,7 @@ impl Tag {
         }
     }
 
-    // The end tag with this name.
+    /// The end tag with this name.
     #[inline(always)]
     fn end(self) -> Token
         ensures { result ≡ token_of lexemes.EndTag self }
@@ -90,7 +90,7 @@ impl Tag {
     }
 }
 
-/// A token whose name and attributes, where it is a tag, stand in a [`Tag`].
+/// A token. The name and the attributes of a tag are in a [`Tag`] beside it.
 #[derive(Clone, Copy)]
 pub enum Lexeme {
     Doctype { legacy: bool },
@@ -98,14 +98,15 @@ pub enum Lexeme {
     EndTag,
     /// The bytes from `from` up to `to` of the source text.
     Slice { from: u32, to: u32 },
-    /// What a character reference stands for.
+    /// The code points of a character reference.
     Points { points: Points },
     /// A comment whose text is the bytes from `from` up to `to` of the source text.
     Comment { from: u32, to: u32 },
 }
 
 impl Lexeme {
-    /// A token. The name and attributes of a tag are put into `tag`; for any other token `tag` stays as it is.
+    /// A token without its tag. The name and the attributes of a tag are put into `tag`. For any other token `tag` is
+    /// unchanged.
     pub fn of(token: Token, tag: &mut Tag) -> Lexeme
         ensures { token_of result tag.new ≡ token }
     {
@@ -130,7 +131,7 @@ impl Lexeme {
     pub fn token(self, tag: Tag) -> Token
         ensures { result ≡ token_of self tag }
     {
-        // A place that no tag takes over is dropped once, after the match.
+        // So `tag` is dropped once, after the match, if no token takes it over.
         let token = match self {
             Lexeme::StartTag { slash } => return tag.start(slash),
             Lexeme::EndTag => return tag.end(),
@@ -143,7 +144,7 @@ impl Lexeme {
     }
 }
 
-/// A token whose tag stands in a [`Tag`], with the bytes of the source text that it was read from.
+/// A token whose tag is in a [`Tag`] beside it, with the bytes of the source text that it was read from.
 #[derive(Clone, Copy)]
 pub struct Placed {
     pub lexeme: Lexeme,
@@ -164,14 +165,14 @@ impl Placed {
     }
 }
 
-/// Why a construct isn't read.
+/// Why a construct isn't allowed.
 #[derive(Clone, Copy, Debug, PartialEq, Eq, Error)]
 pub enum ScanFault {
     #[error("the text ends inside the construct")]
     Cut,
     #[error("a tag or attribute name that isn't read")]
     BadName,
-    /// Repeats are counted.
+    /// Repeated ones are counted.
     #[error("more attributes in one tag than the limit")]
     TooManyAttributes,
     #[error("a doctype of another form")]

@@ -10,8 +10,8 @@ use crate::{Editor, EventView, Maker};
 use std::alloc::Global;
 use std::marker::Model;
 
-/// A tree. Contracts see its walk: the list of its events, in which each end ends the innermost open element, and texts
-/// neither are empty nor touch.
+/// A tree. Contracts see the list of its events. Each end in it ends the innermost open element. No text is empty, and
+/// no two are neighbours.
 #[derive(Drop)]
 pub struct Tree {
     table: EventTable,
@@ -38,6 +38,7 @@ impl Tree {
         Maker::new(alloc)
     }
 
+    /// The tree of a table of events.
     pub(crate) fn of(table: EventTable) -> Tree
         requires matched { ends_match [] table ≡ true }
         requires closed { path_after [] table ≡ [] }
@@ -47,8 +48,7 @@ impl Tree {
         Tree { table }
     }
 
-    /// How many events there are. The tree is a walk within its limits, whose names and texts are UTF-8 and whose texts
-    /// neither are empty nor touch.
+    /// How many events there are.
     pub fn len(&self) -> u32
         ensures len { result ≡ length self.now }
         ensures walk { IsWalk self.now }
@@ -56,13 +56,13 @@ impl Tree {
         self.table.len()
     }
 
-    /// Frees the memory. A large tree is freed in this way before more memory is asked for. What is first cut short
-    /// leaves no large block to the C library's heap, where a long list can't grow in place.
+    /// Frees the memory. A large tree is freed so before more memory is taken: its lists are shortened in place first,
+    /// as `SourceText::release` does.
     pub fn release(self) {
         self.table.release();
     }
 
-    /// The tree as one whose events are gone through and changed.
+    /// Starts editing the tree in place.
     pub fn edit(self) -> Editor
         ensures { result ≡ record { done = []; left = self } }
     {
@@ -77,7 +77,8 @@ impl Tree {
         self.table.event(i)
     }
 
-    /// Puts attribute `at` of event `i` after the others of its tag. Where event `i` has no such attribute the tree stays as it is.
+    /// Moves attribute `at` of event `i` after the others of its tag. Nothing changes if event `i` has no such
+    /// attribute.
     pub fn put_last(&mut self, i: u32, at: u32)
         requires { i < length self.old }
         ensures { self.new ≡ put_last self.old i at }
@@ -85,27 +86,26 @@ impl Tree {
         self.table.put_last(i, at);
     }
 
-    /// The last start that is open directly before event `i`; for an end this is its own start.
+    /// The start of the innermost element that is open directly before event `i`. For an end this is its own start.
     pub fn parent(&self, i: u32) -> Option<u32>
         requires { i < length self.now }
         ensures value { result ≡ parent_of self.now i }
 
-        // Where no element is open there, the result is none; otherwise it is an earlier event, the start of the
-        // innermost one.
+        // None if no element is open there. Otherwise the start is an earlier event.
         ensures element { MatchOption result (path_after [] (take i self.now) ≡ [])
             (λ k. (k < i) × IsStartAt self.now k (path_after [] (take i self.now))) }
     {
         self.table.parent(i)
     }
 
-    /// Whether the trees are the same, event by event.
+    /// Whether both trees have the same events.
     pub fn same(&self, other: &Tree) -> bool
         ensures { IsTrue result ↔ (self.now ≡ other.now) }
     {
         self.first_other(other).is_none()
     }
 
-    /// The least index at which the trees differ or one of them has ended.
+    /// The first index at which the trees differ or one of them ends. None if they are the same.
     pub fn first_other(&self, other: &Tree) -> Option<u32>
         ensures { MatchOption result (self.now ≡ other.now) (DifferFirstAt self.now other.now) }
     {

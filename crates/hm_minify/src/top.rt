@@ -1,4 +1,4 @@
-//! The top call.
+//! The top call of the program.
 ghost use Rattle.std.specs.Prelude.{◌≡◌, ◌≢◌, ◌⊎◌, Some, None, false, true, ℕ, List};
 ghost use Rattle.hm_store.specs.Contents.{Sees, Tells};
 ghost use Rattle.hm_store.specs.Files.{file_of};
@@ -24,7 +24,7 @@ use hm_store::{Failed, Sink, Store};
 use hm_words::{Asked, Notice, WordsFault, notice_in};
 use std::alloc::Global;
 
-/// Puts a line: the status that it says, or that the sink has failed.
+/// Prints a line. Gives `status`, or that the sink failed.
 fn put_line<O: Sink>(out: &mut O, line: &[u8], status: Status) -> Status
     ensures { spec.PutsBytes (O.faults out.old) (O.faults out.new) (O.contents out.old) (O.contents out.new) line.now status result }
 {
@@ -34,7 +34,7 @@ fn put_line<O: Sink>(out: &mut O, line: &[u8], status: Status) -> Status
     }
 }
 
-/// Puts what a run says: its answer, or that the sink has failed.
+/// Prints what a run has to print. Gives `answer`, or that the sink failed.
 fn put_said<O: Sink>(out: &mut O, said: Printed, answer: Status) -> Status
     ensures { spec.PutsBytes (O.faults out.old) (O.faults out.new) (O.contents out.old) (O.contents out.new) (bytes_said said) answer result }
 {
@@ -44,7 +44,7 @@ fn put_said<O: Sink>(out: &mut O, said: Printed, answer: Status) -> Status
     }
 }
 
-/// Writes the files, and then puts what is said.
+/// Writes the files, and then prints.
 fn finish<S: Store, O: Sink>(store: &mut S, out: &mut O, ended: RunEnd<'_>) -> Status
     ensures { Between S.Store O.Sink store.old out.old store.new out.new (spec.Finishes ended.entry result) }
 {
@@ -78,7 +78,7 @@ fn perform_asked<S: Store, O: Sink>(
     }
 }
 
-/// Does what the words ask for, step by step. A notice asks nothing of the store, and no memory.
+/// Does what the arguments ask for, step by step. A notice needs neither the store nor memory.
 fn perform<S: Store, O: Sink>(
     alloc: Global,
     words: &[OwnedText],
@@ -98,7 +98,8 @@ fn perform<S: Store, O: Sink>(
     }
 }
 
-/// Does what the words ask for, and puts one line to the sink, or the lines of a tree, its JSON, or those of a notice or an explanation.
+/// Does what the arguments ask for, and prints one line, or the lines of a tree, its JSON, or those of a notice or an
+/// explanation.
 pub fn run<S: Store, O: Sink>(
     alloc: Global,
     words: &[OwnedText],

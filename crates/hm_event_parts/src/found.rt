@@ -76,8 +76,8 @@ pub(crate) fn fixed_part(bytes: &str) -> Part<'_>
     }
 }
 
-/// What text event `i` has: of a raw text its bytes, of any other one its characters, after one more line feed if one
-/// is due.
+/// What text event `i` has: of a raw text its bytes, of any other one its characters, after one more line feed if
+/// one is needed.
 #[inline(always)]
 fn text_found<'t>(tree: &Tree, i: u32, text: &'t str, raw: bool) -> Found<'t>
     requires inside { i < length tree.now }

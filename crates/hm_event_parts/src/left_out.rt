@@ -68,7 +68,7 @@ fn begins_with_space(text: &[u8]) -> bool
     }
 }
 
-/// Whether the event is a text that begins with whitespace.
+/// Whether the event is a text that starts with whitespace.
 fn is_space_first(next: Option<EventView<'_>>) -> bool
     ensures { result ≡ spellings.begins_space (shown next.entry) }
 {

@@ -1,5 +1,5 @@
-//! Names by their length and first byte. This tells most names of pages from the names in the rules of tags, without a
-//! search through a list.
+//! Names by their length and first byte. So most names of pages are told apart from those in
+//! the rules of tags without a search through a list.
 ghost use Rattle.std.specs.Prelude.{◌≡◌};
 ghost use Rattle.hm_event_parts.specs.Likely as likely;
 

@@ -20,8 +20,8 @@ pub trait Visitor: Drop {
     /// The error with which it stops.
     type Stop: From<OutOfMemory> + Drop;
 
-    // whether it goes on over these units and their steps up to the last layer, by the names of a table, and ends as the first
-    // visitor is
+    // Whether the visitor, which is the last argument, ends as the first argument once it has taken these units and their
+    // steps up to the last layer, by the names of a table.
     ghost goes_on: { Self → List Entry → List units.Unit → List Hops → Self → Type 0 };
 
     /// Takes the step of a unit that has these bytes of its own.

@@ -86,7 +86,7 @@ fn graph_cost(
     ensures last { IfOk result (λ cost. last_cost (sparing_plain table.now.entries rules) closes (record { name = name.now; value = value.now }) ≡ Some cost.last) }
     ensures low { IfOk result IsLowCost }
 {
-    // Where attributes may touch, the space after a value without quotes is the one that a '/' needs.
+    // With `tight`, the space after a value without quotes is the one that a '/' needs.
     let near = last_alone(alloc, table, rules, name, value, rules.tight)?;
     let inner = if rules.tight { near } else { near + 1 };
     if closes == rules.tight {

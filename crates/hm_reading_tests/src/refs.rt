@@ -1,3 +1,4 @@
+//! Tables of character references: what is read, and what is found in them.
 ghost use Rattle.std.specs.Prelude.{◌<◌, ◌≤◌, length, IfSome};
 ghost use Rattle.hm_refs.specs.Tables.{IsNode};
 

@@ -1,3 +1,4 @@
+//! Trees that are made call by call, attributes, and tags with their places.
 #![tactic(auto, using(hm_tree::proofs::RoomLemmas::room))]
 
 ghost use Rattle.std.specs.Prelude.{◌≡◌, ◌+◌, ◌^◌, ◌<◌, ◌≤◌, [], length, true, false, IfOk, OnOk};

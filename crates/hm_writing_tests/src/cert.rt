@@ -1,3 +1,4 @@
+//! Certificates: how they are written and read.
 ghost use Rattle.std.specs.Prelude.{◌<◌, IsTrue};
 ghost use Rattle.hm_cert.specs.Places.{IsRowPlace};
 

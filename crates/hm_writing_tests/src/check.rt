@@ -1,3 +1,4 @@
+//! Checks of texts and certificates, accepted and refused.
 ghost use Rattle.hm_elements.specs.Settled.{Settled};
 
 use crate::made::{LOOSE_RULES as RULES, tree_of};

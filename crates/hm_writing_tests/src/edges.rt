@@ -1,3 +1,4 @@
+//! The edges of units, in their order, and the lengths of their pieces.
 ghost use Rattle.hm_refs.specs.Tables.{TableView};
 ghost use Rattle.hm_edges.specs.States.{HasNodes};
 

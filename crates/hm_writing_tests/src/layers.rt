@@ -1,3 +1,4 @@
+//! Graphs of small trees.
 #![tactic(auto, using(hm_tree::proofs::RoomLemmas::room))]
 
 use crate::made::{NONE, TIGHT_RULES as RULES, TWO, attributes};

@@ -1,3 +1,4 @@
+//! The order of attributes, and what they cost.
 use crate::made::{LOOSE_RULES, NONE, TIGHT_RULES, TWO, tree_of};
 use crate::rows::{cut, expect};
 use hm_base::{Format, OutOfMemory, SpellRules};

@@ -1,3 +1,4 @@
+//! The pages of `measure`.
 use crate::rows::{cut, expect, is_value};
 use hm_measure_page::page_of;
 use std::alloc::Global;

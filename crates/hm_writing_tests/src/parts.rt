@@ -1,3 +1,4 @@
+//! The parts of events, and which tags may be omitted.
 #![tactic(auto, using(hm_tree::proofs::RoomLemmas::room))]
 
 ghost use Rattle.std.specs.Prelude.{◌≡◌, ◌+◌, ◌^◌, ◌<◌, ◌≤◌, length, [], false, true, IfOk, OnOk};

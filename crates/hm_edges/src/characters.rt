@@ -56,7 +56,7 @@ fn is_barred(c: char) -> bool
     is_space(c) || c == '"' || c == '\'' || c == '=' || c == '<' || c == '>' || c == '`'
 }
 
-/// Whether the character may be written as itself in this spot, if output isn't limited to ASCII.
+/// Whether this spot allows the character as itself.
 fn may_stand_in(spot: Spot, c: char) -> bool
     ensures { result ≡ spots.may_stand_in (spot_of spot) c }
 {
@@ -70,7 +70,7 @@ fn may_stand_in(spot: Spot, c: char) -> bool
     }
 }
 
-/// Whether the character may be written as itself in this spot. With `ascii`, only ASCII may, and what has no number.
+/// Whether the character may be written as itself in this spot. `ascii` says whether the output is of ASCII.
 #[tactic(auto, unfolding(hm_spelling_spec::specs::Characters::may_stand))]
 fn may_stand(ascii: bool, spot: Spot, c: char) -> bool
     ensures { result ≡ spots.may_stand ascii (spot_of spot) c }

@@ -171,7 +171,7 @@ fn onto_named(table: &Table, node: Node, byte: u8) -> Option<Pending>
     }
 }
 
-/// What is pending in a text after `&`, the bytes of the node, which start with no name, and the byte.
+/// What is pending in a text after one more byte, if `&` and the bytes of the node are text.
 #[tactic(auto, unfolding(hm_graph_laws::specs::Steps::ampersand_in_text))]
 fn ampersand_in_text(table: &Table, node: Node, byte: u8) -> Option<Pending>
     requires { IsNode table.now node }
@@ -195,7 +195,7 @@ fn is_closed_name_after(table: &Table, node: Node, byte: u8) -> bool
     is_name_after(table, node, byte) && byte == b';'
 }
 
-/// What is pending in a value after `&`, the bytes of the node, which start with no name, and the byte.
+/// What is pending in a value after one more byte, if `&` and the bytes of the node are text.
 #[tactic(auto, unfolding(hm_graph_laws::specs::Steps::ampersand_in_value))]
 fn ampersand_in_value(table: &Table, node: Node, byte: u8) -> Option<Pending>
     requires { IsNode table.now node }
@@ -217,7 +217,7 @@ fn ampersand_in_value(table: &Table, node: Node, byte: u8) -> Option<Pending>
     onto_ampersand(table, node, byte)
 }
 
-/// What is pending in a text after `&`, the bytes of the node, which start with a name without `;`, and the byte.
+/// What is pending in a text after one more byte, if the bytes of the node start with a reference without `;`.
 #[tactic(auto, unfolding(hm_graph_laws::specs::Steps::named_in_text))]
 fn named_in_text(table: &Table, node: Node, byte: u8) -> Option<Pending>
     requires { IsNode table.now node }
@@ -238,7 +238,7 @@ fn breaks_name(table: &Table, node: Node, byte: u8) -> bool
     blocks(byte) || (byte == b';' && has_child(table, node, byte))
 }
 
-/// What is pending in a value after `&`, the bytes of the node, which start with a name without `;`, and the byte.
+/// What is pending in a value after one more byte, if the bytes of the node are a reference without `;`.
 #[tactic(auto, unfolding(hm_graph_laws::specs::Steps::named_in_value))]
 fn named_in_value(table: &Table, node: Node, byte: u8) -> Option<Pending>
     requires { IsNode table.now node }

@@ -19,8 +19,8 @@ use hm_refs::laws::every_table;
 use hm_tree::{AttrsView, EventView, Tree};
 use std::alloc::Global;
 
-/// Gives the tree with the attributes of each tag in the order in which its text is shortest: one that saves most as
-/// the last one goes last, the first of these. They are put into order in place.
+/// Gives the tree with the attributes of each tag in the order in which its text is shortest: the attribute that saves
+/// most as the last one goes last, the first of them if there are several. The attributes are moved in place.
 ///
 /// Fails with `OutOfMemory` if an attribute has a name or a value of 2^27 bytes or more.
 pub fn reorder(

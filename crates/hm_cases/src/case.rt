@@ -1,4 +1,4 @@
-//! One case: words and files, and how the run should end.
+//! One case: arguments and files, and how the run should end.
 use crate::escapes::bytes_of;
 use crate::faults::{ends_at_each_fault, ends_at_each_tear};
 use hm_base::{OutOfMemory, OwnedText};
@@ -17,25 +17,25 @@ struct NamedFile {
 /// The prefixes of a page that give one answer.
 #[derive(Drop)]
 struct Prefixes {
-    // the bytes of the last one; the first is that after those before
+    /// The length of the longest one in bytes; the shortest is one byte longer than those of the row before.
     last: usize,
-    // the printed line, in which `#` at the end stands for the bytes of the prefix
+    /// The printed line, in which a final `#` means the bytes of the prefix.
     line: String,
 }
 
-/// A run in memory, with what is wanted of it.
+/// A run in memory, with what is expected of it.
 #[derive(Drop)]
 pub struct Case {
     name: String,
     words: Vec<OwnedText>,
-    // the files before the run
+    /// The files before the run.
     files: Vec<NamedFile>,
     store: MemStore,
     status: u8,
     wanted: Vec<u8>,
     out: Option<Vec<u8>>,
     cert: Option<Vec<u8>>,
-    // whether each put is to be torn at each of its bytes
+    /// Whether each put is to be torn at each of its bytes.
     torn: bool,
     prefixes: Vec<Prefixes>,
 }
@@ -44,26 +44,26 @@ pub struct Case {
 #[derive(Clone, Copy, PartialEq, Eq)]
 pub enum CaseVerdict {
     Agrees,
-    /// Its exit status is this one.
+    /// Its exit status is this one instead.
     OtherStatus(u8),
     OtherOutput,
-    /// The file `out` or `cert` is another one, or isn't there.
+    /// The file `out` or `cert` has other bytes, or isn't there.
     OtherFile,
-    /// `check` doesn't say yes to what `minify` has written, or `checkfragment` to what `fragment` has, in one of the formats that they
-    /// write.
+    /// `check` doesn't say yes to what `minify` wrote, or `checkfragment` to what `fragment` wrote, in one of the
+    /// formats that they write.
     NotShown,
-    /// Where a call on the files or on the output fails, or a put is torn, the run doesn't end as it should.
+    /// If a call on the files or on the output fails, or a put is torn, the run doesn't end as it should.
     NotEnded,
-    /// The prefix of the page of so many bytes has another answer.
+    /// The prefix of the page with this many bytes has another answer.
     OtherPrefix(usize),
 }
 
-/// The error of a call for which memory was refused.
+/// The I/O error for lack of memory.
 pub fn no_memory(_memory: OutOfMemory) -> io::Error {
     io::Error::from(ErrorKind::OutOfMemory)
 }
 
-/// Whether a file has the wanted bytes, or isn't there where none are wanted.
+/// Whether a file has the expected bytes, or isn't there if none are expected.
 fn holds(store: &MemStore, name: &str, wanted: &Option<Vec<u8>>) -> bool {
     match (store.file(name), wanted) {
         (Some(bytes), Some(wanted)) => bytes == wanted.as_slice(),
@@ -72,7 +72,7 @@ fn holds(store: &MemStore, name: &str, wanted: &Option<Vec<u8>>) -> bool {
     }
 }
 
-/// Whether a file is as before, or a prefix of what is wanted.
+/// Whether a file is as before, or a prefix of what is expected.
 fn is_front(before: &MemStore, store: &MemStore, name: &str, wanted: &Option<Vec<u8>>) -> bool {
     let bytes = store.file(name);
     match (bytes, wanted) {
@@ -81,7 +81,7 @@ fn is_front(before: &MemStore, store: &MemStore, name: &str, wanted: &Option<Vec
     }
 }
 
-/// Whether a word is a flag that changes the tree: that of a rewrite, or of the order of attributes.
+/// Whether an argument is a flag that changes the tree: that of a rewrite, or of the order of attributes.
 fn rewrites(word: &str) -> bool {
     [
         "--doctype",
@@ -96,7 +96,7 @@ fn rewrites(word: &str) -> bool {
     .contains(&word)
 }
 
-/// A printed line with its line feed, in which `#` at the end stands for the bytes of a prefix.
+/// A printed line with its line feed. A final `#` is replaced by the bytes of a prefix.
 fn line_of(alloc: Global, bytes: usize, line: &str) -> Result<String, AllocError> {
     match line.split_once('#') {
         Some((front, _)) => format!(in alloc; "{front}{bytes}\n"),
@@ -105,7 +105,7 @@ fn line_of(alloc: Global, bytes: usize, line: &str) -> Result<String, AllocError
 }
 
 impl Case {
-    /// A case of which nothing is known yet.
+    /// An empty case.
     pub fn new(alloc: Global) -> Self {
         Case {
             name: String::new(alloc),
@@ -126,12 +126,12 @@ impl Case {
         self.name.as_str()
     }
 
-    /// The wanted exit status.
+    /// The expected exit status.
     pub fn status(&self) -> u8 {
         self.status
     }
 
-    /// Takes the words of the command line, with single spaces between.
+    /// Adds the arguments of the command line, which are separated by single spaces.
     fn take_words(&mut self, alloc: Global, text: &str) -> io::Result<()> {
         for word in text.split(' ') {
             let text = String::from_str(alloc, word)?;
@@ -140,14 +140,14 @@ impl Case {
         Ok(())
     }
 
-    /// Takes a printed line that is wanted.
+    /// Adds an expected line of output.
     fn take_line(&mut self, line: &str) -> io::Result<()> {
         self.wanted.extend_from_slice(line.as_bytes())?;
         self.wanted.push(b'\n')?;
         Ok(())
     }
 
-    /// Takes a printed line that is wanted, which may have any bytes.
+    /// Adds an expected line of output, which may have any bytes.
     fn take_bytes(&mut self, alloc: Global, text: &str) -> io::Result<()> {
         self.wanted
             .extend_from_slice(bytes_of(alloc, text)?.as_slice())?;
@@ -155,7 +155,7 @@ impl Case {
         Ok(())
     }
 
-    /// Takes a file.
+    /// Adds a file.
     pub fn take_file(&mut self, alloc: Global, name: &str, bytes: &[u8]) -> io::Result<()> {
         self.files.push(NamedFile {
             name: String::from_str(alloc, name)?,
@@ -200,8 +200,8 @@ impl Case {
             && holds(store, "cert", &self.cert)
     }
 
-    /// Whether the files are as a call that fails may leave them: OUT as before or a prefix of what is wanted, CERT too, but as
-    /// before where OUT isn't whole.
+    /// Whether the files are as a call that fails may leave them: OUT is as before or a prefix of what is expected.
+    /// CERT is too, but as before if OUT isn't whole.
     pub fn is_begun(&self, before: &MemStore, store: &MemStore) -> bool {
         let out = is_front(before, store, "out", &self.out);
         let cert = is_front(before, store, "cert", &self.cert);
@@ -209,17 +209,17 @@ impl Case {
         self.keeps_inputs(store) && out && cert && (cert_kept || holds(store, "out", &self.out))
     }
 
-    /// Runs the words of the case over a store and a sink, and returns the exit status.
+    /// Runs the arguments of the case over a store and a sink, and returns the exit status.
     pub fn run_over(&self, alloc: Global, store: &mut MemStore, sink: &mut MemSink) -> u8 {
         run(alloc, self.words.as_slice(), store, sink).code()
     }
 
-    /// The printed bytes that are wanted.
+    /// The expected output in bytes.
     pub fn wanted(&self) -> &[u8] {
         self.wanted.as_slice()
     }
 
-    /// Takes the file `out` or `cert`, which is there before the run and is to be the same afterwards.
+    /// Adds the file `out` or `cert`, which is there before the run and has to be the same afterwards.
     fn take_kept(&mut self, alloc: Global, name: &str, text: &str) -> io::Result<()> {
         let bytes = bytes_of(alloc, text)?;
         self.take_file(alloc, name, bytes.as_slice())?;
@@ -231,7 +231,7 @@ impl Case {
         Ok(())
     }
 
-    /// Takes the answer of some prefixes of the page: the bytes of the last one, and the line.
+    /// Adds the answer of some prefixes of the page: the length of the last one in bytes, and the line.
     fn take_prefixes(&mut self, alloc: Global, text: &str) -> io::Result<()> {
         let (last, line) = text.split_once(' ').unwrap_or((text, ""));
         match last.parse::<usize>() {
@@ -244,7 +244,7 @@ impl Case {
         }
     }
 
-    /// Takes a line of the case, by its first word. A first word that no line of a case has is refused as `InvalidData`.
+    /// Adds a line of the case, by its first word. Fails with `InvalidData` if no line of a case starts with that word.
     pub fn take(&mut self, alloc: Global, key: &str, rest: &str) -> io::Result<()> {
         match key {
             "case" => Ok(self.name.push_str(rest)?),
@@ -285,8 +285,8 @@ impl Case {
             .any(|word| word.text.as_str() == "minifyjson")
     }
 
-    /// The words of the case, with `check` in place of `minify`, or `checkfragment` in place of `fragment`. Where the tree is given as
-    /// JSON the page is `copy`, and nothing is rewritten or put into order.
+    /// The arguments of the case, with `check` for `minify`, or `checkfragment` for `fragment`. If the tree is given as
+    /// JSON, the page is `copy`, and nothing is rewritten or put into order.
     fn checking(&self, alloc: Global) -> io::Result<Vec<OwnedText>> {
         let of_json = self.is_of_json();
         let mut words = Vec::new(alloc);
@@ -307,7 +307,7 @@ impl Case {
         Ok(words)
     }
 
-    /// Where the tree is given as JSON, puts what was written beside it as the page `copy`.
+    /// If the tree is given as JSON, adds what was written as the page `copy`.
     fn put_copy(&mut self, alloc: Global) -> io::Result<()> {
         if !self.is_of_json() {
             return Ok(());
@@ -322,7 +322,7 @@ impl Case {
         }
     }
 
-    /// The words of the case without `--sparse`, or with it where they don't have it.
+    /// The arguments of the case without `--sparse`, or with it if they don't have it.
     fn in_other_format(&self, alloc: Global) -> io::Result<Vec<OwnedText>> {
         let mut words = Vec::new(alloc);
         for word in &self.words {
@@ -338,7 +338,7 @@ impl Case {
         Ok(words)
     }
 
-    /// Whether `check` says yes to the files that are there, with as many bytes as `minify` is to say.
+    /// Whether `check` says yes to the files that are there, with as many bytes as `minify` should print.
     fn is_checked(&mut self, alloc: Global) -> io::Result<bool> {
         self.put_copy(alloc)?;
         let words = self.checking(alloc)?;
@@ -361,12 +361,12 @@ impl Case {
         Ok(status == Status::Done && same)
     }
 
-    /// Whether `check` says yes to what the run has written, and to what it writes with a certificate of the other format.
+    /// Whether `check` says yes to what the run wrote, and to what it writes with a certificate of the other format.
     fn is_shown(&mut self, alloc: Global) -> io::Result<bool> {
         Ok(self.is_checked(alloc)? && self.writes_again(alloc)? && self.is_checked(alloc)?)
     }
 
-    /// Whether the case is that of a page that is minified.
+    /// Whether the case minifies a page.
     fn is_minified(&self) -> bool {
         self.wanted.starts_with(b"length ")
     }
@@ -376,7 +376,7 @@ impl Case {
         run(alloc, self.words.as_slice(), &mut self.store, sink).code()
     }
 
-    /// How a run with this status and this output ended, by these and by the files.
+    /// How a run with this status and this output ended, compared with what is expected, also of the files.
     fn judged(&self, status: u8, printed: &[u8]) -> CaseVerdict {
         if status != self.status {
             CaseVerdict::OtherStatus(status)
@@ -389,14 +389,15 @@ impl Case {
         }
     }
 
-    /// Runs the case, and compares its status, what is printed and the files.
+    /// Runs the case, and compares its status, its output and the files.
     fn compared(&mut self, alloc: Global) -> CaseVerdict {
         let mut sink = MemSink::new(alloc);
         let status = self.run_whole(alloc, &mut sink);
         self.judged(status, sink.bytes())
     }
 
-    /// Runs the case, and compares. Where it agrees, `check` is asked about what it has written, and it is run again with calls that fail.
+    /// Runs the case, and compares. If it agrees, `check` judges what it wrote, and it is run again with calls that
+    /// fail.
     pub fn verdict(&mut self, alloc: Global) -> io::Result<CaseVerdict> {
         let compared = self.compared(alloc);
         if compared != CaseVerdict::Agrees {
@@ -412,7 +413,7 @@ impl Case {
         }
     }
 
-    /// The page, where there is one.
+    /// The page, or no bytes if there is none.
     fn page(&self) -> &[u8] {
         for file in &self.files {
             if file.name.as_str() == "page" {
@@ -422,7 +423,7 @@ impl Case {
         &[]
     }
 
-    /// Whether the case, with the prefix of the page of so many bytes in an empty store, prints this line.
+    /// Whether the case prints this line if the page is its prefix of this many bytes, in an empty store.
     fn prints(
         &self,
         alloc: Global,
@@ -442,7 +443,7 @@ impl Case {
         Ok(status == wanted && sink.bytes() == line.as_bytes())
     }
 
-    /// Whether the prefix of the page of so many bytes has this answer.
+    /// Whether the prefix of the page with this many bytes has this answer.
     fn answers(&self, alloc: Global, bytes: usize, line: &str) -> io::Result<bool> {
         let line = line_of(alloc, bytes, line)?;
         let mut store = MemStore::new(alloc);
@@ -464,7 +465,7 @@ impl Case {
         Ok(None)
     }
 
-    /// Compares the answers of all prefixes of the page, where they are wanted.
+    /// Compares the answers of all prefixes of the page, if the case lists them.
     fn verdict_of_prefixes(&self, alloc: Global) -> io::Result<CaseVerdict> {
         let mut next: usize = 0;
         for prefixes in &self.prefixes {
@@ -479,12 +480,12 @@ impl Case {
         Ok(CaseVerdict::Agrees)
     }
 
-    /// The bytes of the file `out` that is wanted, 0 where there is none.
+    /// The length of the expected file `out` in bytes, or 0 if there is none.
     pub fn out_length(&self) -> usize {
         self.out.as_ref().map_or(0, |out| out.len())
     }
 
-    /// The bytes of the file `cert` that is wanted, 0 where there is none.
+    /// The length of the expected file `cert` in bytes, or 0 if there is none.
     pub fn cert_length(&self) -> usize {
         self.cert.as_ref().map_or(0, |cert| cert.len())
     }

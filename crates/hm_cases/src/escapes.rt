@@ -1,7 +1,7 @@
-//! Bytes that a line of text stands for.
+//! The bytes that a line of text means.
 use std::alloc::{AllocError, Global};
 
-/// What has been read of an escape.
+/// The part of an escape that was read.
 #[derive(Clone, Copy)]
 enum Begun {
     Nothing,
@@ -10,7 +10,7 @@ enum Begun {
     FirstDigit(u8),
 }
 
-/// The value of a lower-case hexadecimal digit, 0 for any other byte.
+/// The value of a lower-case hexadecimal digit, or 0 for any other byte.
 fn digit(byte: u8) -> u8 {
     match byte {
         b'0'..=b'9' => byte - b'0',
@@ -19,7 +19,7 @@ fn digit(byte: u8) -> u8 {
     }
 }
 
-/// The byte that one more byte of the text makes, if any, and what is begun after it.
+/// The byte that one more byte of the text gives, if any, and the part of an escape after it.
 fn step(begun: Begun, byte: u8) -> (Option<u8>, Begun) {
     match begun {
         Begun::Nothing if byte == b'\\' => (None, Begun::Backslash),
@@ -39,7 +39,7 @@ fn step(begun: Begun, byte: u8) -> (Option<u8>, Begun) {
     }
 }
 
-/// The bytes that a text stands for: `\n`, `\r`, `\t`, `\\` and `\xHH` for the bytes that they name, and every other byte for
+/// The bytes that a text means: `\n`, `\r`, `\t`, `\\` and `\xHH` are the bytes that they name, and every other byte is
 /// itself.
 pub fn bytes_of(alloc: Global, text: &str) -> Result<Vec<u8>, AllocError> {
     let mut bytes = Vec::new(alloc);

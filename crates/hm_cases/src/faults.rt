@@ -5,17 +5,19 @@ use hm_store::{MemSink, MemStore, Sink, Store};
 use std::alloc::Global;
 use std::io;
 
-/// The exit status and the line of a run in which a call on the files has failed, and the status where one on the output has.
+/// The exit status of a run in which a call on the files failed.
 const STORE_FAULT: u8 = 5;
 
+/// The line that such a run prints.
 const STORE_LINE: &[u8] = b"store fault\n";
 
+/// The exit status of a run in which a call on the output failed.
 const SINK_FAULT: u8 = 6;
 
 /// More calls than a run makes on its files.
 const MOST_CALLS: u32 = 64;
 
-/// An answer whose error is want of memory.
+/// The answer, with lack of memory as an I/O error.
 fn kept<T>(answer: Result<T, OutOfMemory>) -> io::Result<T> {
     match answer {
         Ok(value) => Ok(value),
@@ -23,17 +25,17 @@ fn kept<T>(answer: Result<T, OutOfMemory>) -> io::Result<T> {
     }
 }
 
-/// What a call that is listed to fail, with the one after it, has done to a run.
+/// What a call that is listed to fail, and the one after it, did to a run.
 #[derive(Clone, Copy)]
 enum Listed {
-    /// The run has made it, and no call after it.
+    /// The run made it, and no call after it.
     MadeLast,
-    /// The run has made no such call: both are left.
+    /// The run made no such call: both are left.
     NotMade,
     Passed,
 }
 
-/// What became of the two calls, by whether the next two calls fail.
+/// What happened to the two calls, by whether the next two calls fail.
 fn which_of(first: bool, second: bool) -> Listed {
     match (first, second) {
         (true, false) => Listed::MadeLast,
@@ -42,23 +44,23 @@ fn which_of(first: bool, second: bool) -> Listed {
     }
 }
 
-/// How a run with a call that is listed to fail has ended.
+/// How a run with a call that is listed to fail ended.
 #[derive(Clone, Copy)]
 enum Ended {
-    /// It makes fewer calls, and is as it should be.
+    /// The run makes fewer calls, and is as it should be.
     Whole,
-    /// The call has ended it, and all is as it should be.
+    /// The call ended the run, and all is as it should be.
     AtCall,
     Otherwise,
 }
 
-/// The ending where the run is as it should be, and another one where it isn't.
+/// `ending` if the run is as it should be, and else that it isn't.
 fn where_right(ending: Ended, is_right: bool) -> Ended {
     if is_right { ending } else { Ended::Otherwise }
 }
 
-/// Runs the case over an empty store with a call on it that is listed to fail, and the one after it too. `before` is another empty store,
-/// which gets the files before the run.
+/// Runs the case over an empty store with a call on it that is listed to fail, and the one after it too. `before` is
+/// another empty store, for the files before the run.
 fn over_store(
     alloc: Global,
     case: &Case,
@@ -150,13 +152,13 @@ fn ends_at_sink_calls(alloc: Global, case: &Case) -> io::Result<bool> {
     Ok(false)
 }
 
-/// Whether the run ends as it should where each call in turn fails.
+/// Whether the run ends as it should if each call in turn fails.
 pub fn ends_at_each_fault(alloc: Global, case: &Case) -> io::Result<bool> {
     Ok(ends_at_store_calls(alloc, case)? && ends_at_sink_calls(alloc, case)?)
 }
 
-/// Whether a run over an empty store ends as it should whose put of OUT, the first, is torn after so many bytes, and one whose put of
-/// CERT is. `before` is another empty store, which gets the files before the run.
+/// Whether a run over an empty store ends as it should if its put of OUT (put 1) or of CERT is torn after this many
+/// bytes. `before` is another empty store, for the files before the run.
 fn over_torn(
     alloc: Global,
     case: &Case,
@@ -181,14 +183,14 @@ fn over_torn(
     )
 }
 
-/// Whether a run ends as it should whose put of OUT, the first, is torn after so many bytes, and one whose put of CERT is.
+/// Whether a run ends as it should if its put of OUT (put 1) or of CERT is torn after this many bytes.
 fn ends_torn(alloc: Global, case: &Case, put: u32, bytes: u32) -> io::Result<bool> {
     let mut before = MemStore::new(alloc);
     let mut store = MemStore::new(alloc);
     over_torn(alloc, case, (put, bytes), &mut before, &mut store)
 }
 
-/// Whether a run over an empty store and sink ends as it should whose put on the sink is torn after so many bytes.
+/// Whether a run over an empty store and sink ends as it should if its put on the sink is torn after this many bytes.
 fn over_torn_line(
     alloc: Global,
     case: &Case,
@@ -203,14 +205,15 @@ fn over_torn_line(
     Ok(status == SINK_FAULT && begun && case.is_whole(store))
 }
 
-/// Whether a run ends as it should whose put on the sink is torn after so many bytes.
+/// Whether a run ends as it should if its put on the sink is torn after this many bytes.
 fn ends_torn_line(alloc: Global, case: &Case, bytes: u32) -> io::Result<bool> {
     let mut store = MemStore::new(alloc);
     let mut sink = MemSink::new(alloc);
     over_torn_line(alloc, case, bytes, &mut store, &mut sink)
 }
 
-/// Whether a run ends as it should whose put of that number, OUT, CERT or the line, is torn after any number of its bytes.
+/// Whether a run ends as it should if its put with that number, of OUT, CERT or the line, is torn after any number of
+/// its bytes.
 fn ends_at_tears_of(alloc: Global, case: &Case, put: u32, length: usize) -> io::Result<bool> {
     for bytes in 0..=u32::try_from(length).unwrap_or(0) {
         let ends = if put == 3 {
@@ -225,7 +228,7 @@ fn ends_at_tears_of(alloc: Global, case: &Case, put: u32, length: usize) -> io::
     Ok(true)
 }
 
-/// Whether the run ends as it should where each put is torn at each of its bytes.
+/// Whether the run ends as it should if each put is torn at each of its bytes.
 pub fn ends_at_each_tear(alloc: Global, case: &Case) -> io::Result<bool> {
     Ok(
         ends_at_tears_of(alloc, case, 1, case.out_length())?

@@ -1,7 +1,7 @@
-//! Runs each case of `cases.txt` in memory, prints each that doesn't end as wanted, and then how many there are. The same for
-//! `wrong.txt`, whose cases are wrong on purpose but the first: each of the others has to be told.
+//! Runs each case of `cases.txt` in memory, prints each that doesn't end as expected, and then how many there are. Does
+//! the same for `wrong.txt`, whose cases are all wrong on purpose but the first: each of the others has to be printed.
 //!
-//! The form of the file is described in `compare/README.md`.
+//! `compare/README.md` describes the form of the file.
 #![tactic(auto)]
 
 mod case;
@@ -13,7 +13,7 @@ use std::alloc::{AllocError, Global};
 use std::rt::Files;
 use std::{fs, io};
 
-/// What is told of a case that differs, whose status was wanted.
+/// The message for a case with this verdict. `wanted` is the expected status.
 fn told(alloc: Global, verdict: CaseVerdict, wanted: u8) -> Result<String, AllocError> {
     match verdict {
         CaseVerdict::Agrees => String::from_str(alloc, "as wanted"),
@@ -28,12 +28,12 @@ fn told(alloc: Global, verdict: CaseVerdict, wanted: u8) -> Result<String, Alloc
     }
 }
 
-/// Prints what is told of a case.
+/// Prints the message for a case.
 fn tell(rt: &impl Print, name: &str, what: &str) -> io::Result<()> {
     println!(rt; "{name}: {what}")
 }
 
-/// Runs a case and prints how it differs: whether it does.
+/// Runs a case and prints how it differs. Gives whether it does.
 fn differs(rt: &impl Print, alloc: Global, case: &mut Case) -> io::Result<bool> {
     let verdict = case.verdict(alloc)?;
     if verdict == CaseVerdict::Agrees {
@@ -52,6 +52,7 @@ struct Counts {
 }
 
 impl Counts {
+    /// Counts one more case.
     fn take(&mut self, differs: bool) {
         self.cases = self.cases.saturating_add(1);
         if differs {
@@ -60,7 +61,7 @@ impl Counts {
     }
 }
 
-/// Runs a case at its last line, and begins another one.
+/// Runs a case at its last line, and starts another one.
 fn end_case(
     rt: &(impl Print + AllocGlobal),
     case: &mut Case,
@@ -71,13 +72,13 @@ fn end_case(
     Ok(())
 }
 
-/// Takes a file that stands beside the cases as the table of a case.
+/// Adds a file of the cases' folder as the table of a case.
 fn take_table(rt: &(impl Files + AllocGlobal), case: &mut Case, name: &str) -> io::Result<()> {
     let table = fs::read(rt, name)?;
     case.take_file(rt.alloc(), "table", table.as_slice())
 }
 
-/// Takes a line of the file into a case. At the last line of the case it is run, and another one begins.
+/// Adds a line of the file to a case. At the last line of the case it is run, and another one starts.
 fn take_line(
     rt: &(impl Print + Files + AllocGlobal),
     case: &mut Case,
@@ -92,7 +93,7 @@ fn take_line(
     }
 }
 
-/// Takes the lines of a file.
+/// Adds the lines of a file.
 fn take_lines(
     rt: &(impl Print + Files + AllocGlobal),
     case: &mut Case,
@@ -115,7 +116,7 @@ fn count_cases(
     take_lines(rt, &mut case, counts, text)
 }
 
-/// The same of a file.
+/// Runs the cases of a file, counts them and prints each that differs.
 fn count_in(
     rt: &(impl Print + Files + AllocGlobal),
     counts: &mut Counts,
@@ -140,6 +141,7 @@ fn run_cases(rt: &(impl Print + Files + AllocGlobal), file: &str) -> io::Result<
     tell_counts(rt, file, counts.cases, counts.differ)
 }
 
+/// Runs both files of cases.
 fn main(rt: HostRuntime) -> io::Result<()> {
     run_cases(&rt, "cases.txt")?;
     run_cases(&rt, "wrong.txt")

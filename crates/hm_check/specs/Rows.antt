@@ -22,7 +22,7 @@ other_width edges follows k (unit ∷ units) states (row ∷ rows) =
     else if length row == length states then other_width edges follows (suc k) units (states_after edges unit states) rows
     else Some (record { layer = k; got = length row; want = length states })
 
--- A price above its bound: a number above a number, or a closed price where the bound is a number.
+-- A price above its bound: a number above a number, or an infinite price (None) if the bound is a number.
 abbrev pub is_above : Option ℕ → Option ℕ → Bool
 is_above price None = false
 is_above None (Some b) = true

@@ -37,7 +37,7 @@ fn least_price(next_row: &[u64], hops: &[Hop]) -> u64
     best
 }
 
-/// As `least_price`. Most states have one hop.
+/// As `least_price`, with a fast path for one hop, which most states have.
 pub(crate) fn best_price(next_row: &[u64], hops: &[Hop]) -> u64
     requires below { AreBelow (2 ^ 63 + 2 ^ 62) (map told next_row.now) }
     requires low { AreLowHops hops.now }
@@ -49,7 +49,7 @@ pub(crate) fn best_price(next_row: &[u64], hops: &[Hop]) -> u64
     }
 }
 
-/// Whether a price is above its bound. A closed one is the greatest.
+/// Whether a price is above its bound. An infinite one is the greatest.
 fn is_above(price: u64, bound: u64) -> bool
     ensures { result ≡ rows.is_above (told price) (told bound) }
 {

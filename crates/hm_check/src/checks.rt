@@ -21,7 +21,7 @@ use hm_refs::laws::every_table;
 use hm_tree::Tree;
 use std::alloc::Global;
 
-/// Whether the rules are the same.
+/// Whether the rules are equal.
 fn same_rules(left: SpellRules, right: SpellRules) -> bool
     ensures { result ≡ verdicts.same_rules left right }
 {
@@ -32,7 +32,7 @@ fn same_rules(left: SpellRules, right: SpellRules) -> bool
         && left.frame == right.frame
 }
 
-/// What is found of the rows of a certificate, for a text of `length` bytes.
+/// What is found of the certificate's rows, for a text of `length` bytes.
 fn by_certificate(
     alloc: Global,
     table: &Table,
@@ -53,7 +53,7 @@ fn by_certificate(
 /// Checks whether a certificate shows that a text is the shortest of a tree, by a table of names and these rules. The
 /// prices of a certificate that was read can be written.
 ///
-/// The time is linear in the text, the tree and the certificate, and two layers of prices are kept.
+/// Takes time linear in the text, the tree and the certificate, and keeps two layers of prices.
 pub fn check(
     alloc: Global,
     table: &Table,
@@ -77,12 +77,13 @@ pub fn check(
     }
 }
 
-/// How many bytes of a text without tags are read in the time in which the bytes of an event are followed, as measured.
+/// How many bytes of a text without tags are read in the time in which the bytes of one event are followed, as
+/// measured.
 const BYTES_AN_EVENT: usize = 64;
 
-/// As `check`, of a settled tree. A text that follows the tree's graph isn't read: what it follows spells the tree. It is followed
-/// where that is cheaper than reading: along the graph of a sparse certificate, where most states have one edge, and where the
-/// tree has many events for the bytes of the text.
+/// As `check`, for a settled tree. A text that follows the tree's graph isn't parsed: what follows the graph spells the
+/// tree. It is followed if that is cheaper than parsing: along the graph of a sparse certificate, where most states
+/// have one edge, and if the tree has many events for the bytes of the text.
 pub fn check_settled<'t>(
     alloc: Global,
     table: &'t Table,

@@ -26,7 +26,7 @@ use std::alloc::Global;
 enum Stop {
     /// It leaves the graph.
     Leaves,
-    /// Memory was refused.
+    /// No memory could be allocated.
     OutOfMemory,
 }
 
@@ -38,25 +38,25 @@ impl From<OutOfMemory> for Stop {
     }
 }
 
-/// How far a text follows.
+/// How far a text follows the graph.
 #[derive(Drop)]
 struct Followed<'o> {
-    /// What is left of the text.
+    /// The rest of the text.
     rest: &'o [u8],
-    /// The place of the state among those of its layer.
+    /// The index of the state in its layer.
     place: usize,
-    /// The bytes of a piece, to compare.
+    /// A buffer for the bytes of a piece that are compared.
     spare: Vec<u8>,
 }
 
-/// Where a hop leads, and what is left of the text after its bytes.
+/// Where a hop leads, and the rest of the text after its bytes.
 #[derive(Clone, Copy)]
 struct Taken<'o> {
     to: usize,
     rest: &'o [u8],
 }
 
-/// What follows a byte, where the text begins with it.
+/// The text after a byte, if the text starts with it.
 #[inline(always)]
 fn after_byte(text: &[u8], byte: u8) -> Option<&[u8]>
     ensures { IfSome result (λ rest. text.now ≡ byte ∷ rest.now) }
@@ -67,7 +67,7 @@ fn after_byte(text: &[u8], byte: u8) -> Option<&[u8]>
     }
 }
 
-/// What follows a byte, where the text begins with it, or where it isn't wanted.
+/// The text after a byte, if the text starts with it. The whole text if the byte isn't wanted.
 #[inline(always)]
 fn after_where(text: &[u8], wanted: bool, byte: u8) -> Option<&[u8]>
     ensures { IfSome result (λ rest. text.now ≡ (if wanted then byte ∷ [] else []) ++ rest.now) }
@@ -79,7 +79,7 @@ fn after_where(text: &[u8], wanted: bool, byte: u8) -> Option<&[u8]>
     }
 }
 
-/// Whether two texts of the same length, which is small, are the same.
+/// Whether two texts of the same length are equal. Meant for short ones.
 #[inline(always)]
 fn are_short_same(text: &[u8], bytes: &[u8]) -> bool
     requires { length text.now ≡ length bytes.now }
@@ -93,7 +93,7 @@ fn are_short_same(text: &[u8], bytes: &[u8]) -> bool
     true
 }
 
-/// What follows these bytes, where the text begins with them.
+/// The text after these bytes, if it starts with them.
 fn after<'o>(text: &'o [u8], bytes: &[u8]) -> Option<&'o [u8]>
     ensures { IfSome result (λ rest. text.now ≡ bytes.now ++ rest.now) }
 {
@@ -106,7 +106,7 @@ fn after<'o>(text: &'o [u8], bytes: &[u8]) -> Option<&'o [u8]>
     None
 }
 
-/// What follows a character of several bytes, where the text begins with it.
+/// The text after a character of several bytes, if it starts with it.
 #[inline(never)]
 fn after_wide(text: &[u8], c: char) -> Option<&[u8]>
     ensures { IfSome result (λ rest. text.now ≡ encode_utf8 c ++ rest.now) }
@@ -115,7 +115,7 @@ fn after_wide(text: &[u8], c: char) -> Option<&[u8]>
     after(text, c.encode_utf8(&mut buffer).as_bytes())
 }
 
-/// What follows a character, where the text begins with it.
+/// The text after a character, if it starts with it.
 #[inline(always)]
 fn after_character(text: &[u8], c: char) -> Option<&[u8]>
     ensures { IfSome result (λ rest. text.now ≡ encode_utf8 c ++ rest.now) }
@@ -127,7 +127,7 @@ fn after_character(text: &[u8], c: char) -> Option<&[u8]>
     }
 }
 
-/// What follows a comment, where the text begins with it.
+/// The text after a comment, if it starts with it.
 fn after_comment<'o>(text: &'o [u8], comment: &str) -> Option<&'o [u8]>
     ensures { IfSome result (λ rest. text.now ≡ comment_bytes comment.now ++ rest.now) }
 {
@@ -136,7 +136,7 @@ fn after_comment<'o>(text: &'o [u8], comment: &str) -> Option<&'o [u8]>
     after(end, b"-->")
 }
 
-/// What follows the bytes that a unit has of its own, where the text begins with it.
+/// The text after a unit's own text, if it starts with that.
 #[inline(always)]
 fn after_own<'o>(text: &'o [u8], own: UnitText) -> Option<&'o [u8]>
     ensures { IfSome result (λ rest. text.now ≡ own_text own.entry ++ rest.now) }
@@ -148,7 +148,7 @@ fn after_own<'o>(text: &'o [u8], own: UnitText) -> Option<&'o [u8]>
     }
 }
 
-/// What follows the end of a tag, where the text begins with it.
+/// The text after `>` or `/>`, if it starts with that.
 #[inline(always)]
 fn after_close(text: &[u8], closes: bool) -> Option<&[u8]>
     ensures { IfSome result (λ rest. text.now ≡ (if closes then codes "/>" else codes ">") ++ rest.now) }
@@ -156,7 +156,7 @@ fn after_close(text: &[u8], closes: bool) -> Option<&[u8]>
     after_byte(after_where(text, closes, b'/')?, b'>')
 }
 
-/// What follows a quote, where the text begins with it.
+/// The text after a quote, if it starts with it.
 #[inline(always)]
 fn after_quote(text: &[u8], double: bool) -> Option<&[u8]>
     ensures { IfSome result (λ rest. text.now ≡ (if double then 34 ∷ [] else 39 ∷ []) ++ rest.now) }
@@ -168,7 +168,7 @@ fn after_quote(text: &[u8], double: bool) -> Option<&[u8]>
     }
 }
 
-/// What follows the end of a tag and what stands before it, where the text begins with them.
+/// The text after `>` or `/>` and the space before it, if it starts with them.
 #[inline(always)]
 fn after_tag_close(text: &[u8], space: bool, closes: bool) -> Option<&[u8]>
     ensures { IfSome result (λ rest. text.now ≡ with_gap space (if closes then codes "/>" else codes ">") ++ rest.now) }
@@ -176,7 +176,7 @@ fn after_tag_close(text: &[u8], space: bool, closes: bool) -> Option<&[u8]>
     after_close(after_where(text, space, b' ')?, closes)
 }
 
-/// What follows the name of a tag with a `<`, where the text begins with it.
+/// The text after `<` and the name of a tag, if it starts with them.
 #[inline(always)]
 fn after_tag_name<'o>(text: &'o [u8], own: UnitText) -> Option<&'o [u8]>
     ensures { IfSome result (λ rest. text.now ≡ (60 ∷ own_text own.entry) ++ rest.now) }
@@ -184,7 +184,7 @@ fn after_tag_name<'o>(text: &'o [u8], own: UnitText) -> Option<&'o [u8]>
     after_own(after_byte(text, b'<')?, own)
 }
 
-/// What follows the bytes that open a value, where the text begins with it.
+/// The text after the bytes that open a value, if it starts with them.
 #[inline(always)]
 fn after_opening(text: &[u8], form: Quoting) -> Option<&[u8]>
     ensures { IfSome result (λ rest. text.now ≡ with_opening form [] ++ rest.now) }
@@ -197,7 +197,7 @@ fn after_opening(text: &[u8], form: Quoting) -> Option<&[u8]>
     }
 }
 
-/// What follows an attribute up to what opens its value, where the text begins with it.
+/// The text after an attribute up to what opens its value, if it starts with that.
 #[inline(always)]
 fn after_attribute<'o>(text: &'o [u8], own: UnitText, gap: bool, form: Quoting) -> Option<&'o [u8]>
     ensures { IfSome result (λ rest. text.now ≡ with_gap gap (with_opening form (own_text own.entry)) ++ rest.now) }
@@ -206,7 +206,7 @@ fn after_attribute<'o>(text: &'o [u8], own: UnitText, gap: bool, form: Quoting) 
     after_opening(after_own(name, own)?, form)
 }
 
-/// What follows an end tag, where the text begins with it.
+/// The text after an end tag, if it starts with it.
 #[inline(always)]
 fn after_end_tag<'o>(text: &'o [u8], own: UnitText) -> Option<&'o [u8]>
     ensures { IfSome result (λ rest. text.now ≡ (codes "</" ++ (own_text own.entry ++ codes ">")) ++ rest.now) }
@@ -215,8 +215,8 @@ fn after_end_tag<'o>(text: &'o [u8], own: UnitText) -> Option<&'o [u8]>
     after_byte(after_own(name, own)?, b'>')
 }
 
-/// What follows the bytes that a piece writes for a unit, where the text begins with them: those of a piece that writes
-/// a reference or a section are put into a buffer.
+/// The text after the bytes that a piece writes for a unit, if it starts with them. The bytes of a reference or of a
+/// section are written to the buffer `spare` first.
 fn after_other<'o>(
     text: &'o [u8],
     spare: &mut Vec<u8>,
@@ -232,7 +232,7 @@ fn after_other<'o>(
     Ok(after(text, spare.as_slice()))
 }
 
-/// What follows the bytes that a piece writes for a unit, where the text begins with them.
+/// The text after the bytes that a piece writes for a unit, if it starts with them.
 #[inline(always)]
 fn after_piece<'o>(
     text: &'o [u8],
@@ -256,7 +256,7 @@ fn after_piece<'o>(
     }
 }
 
-/// Where a hop leads, where the text begins with its bytes.
+/// Where a hop leads, if the text starts with its bytes.
 #[inline(always)]
 fn over_hop<'o>(
     text: &'o [u8],
@@ -274,7 +274,7 @@ fn over_hop<'o>(
     }
 }
 
-/// Whether what opens a value of this form may be at a place of a text.
+/// Whether the text from byte `at` on may be what opens a value with these quotes.
 #[inline(always)]
 fn may_open(text: &[u8], at: usize, form: Quoting) -> bool {
     match text.get(at..) {
@@ -290,8 +290,8 @@ fn may_open(text: &[u8], at: usize, form: Quoting) -> bool {
     }
 }
 
-/// Whether a text may begin with the bytes of a piece. Of the forms of an attribute, those that open its value in
-/// another way than the text does are skipped before its name is compared.
+/// Whether a text may start with the bytes of a piece. Attributes whose value the text opens with other quotes are
+/// skipped before their names are compared.
 #[inline(always)]
 fn may_begin(text: &[u8], piece: Piece, own: UnitText) -> bool {
     match (piece, own) {
@@ -302,7 +302,7 @@ fn may_begin(text: &[u8], piece: Piece, own: UnitText) -> bool {
     }
 }
 
-/// As `over_hop`, in a call of its own.
+/// As `over_hop`, but never inlined.
 #[inline(never)]
 fn over_one<'o>(
     text: &'o [u8],
@@ -317,7 +317,7 @@ fn over_one<'o>(
     over_hop(text, spare, table, hop, own)
 }
 
-/// The one that leaves less of the text, where there are both.
+/// The one with less of the text left, if there are both.
 fn further<'o>(one: Option<Taken<'o>>, other: Option<Taken<'o>>) -> Option<Taken<'o>>
     ensures { (result ≡ one.entry) ⊎ (result ≡ other.entry) }
 {
@@ -334,7 +334,7 @@ fn further<'o>(one: Option<Taken<'o>>, other: Option<Taken<'o>>) -> Option<Taken
     }
 }
 
-/// Where the hops lead with whose bytes the text begins: of several, that with the most bytes.
+/// Where the hop leads with whose bytes the text starts. If there are several, the one with the most bytes.
 #[inline(never)]
 fn over_several<'o>(
     text: &'o [u8],
@@ -355,7 +355,7 @@ fn over_several<'o>(
     Ok(found)
 }
 
-/// As `over_several`. Most states have one hop.
+/// As `over_several`, with a fast path for one hop, which most states have.
 #[inline(always)]
 fn over_hops<'o>(
     text: &'o [u8],
@@ -373,7 +373,7 @@ fn over_hops<'o>(
     }
 }
 
-/// Where the text leads from a place over a step.
+/// Where the text leads over a step, from the state with this index.
 #[inline(always)]
 fn over_step<'o>(
     text: &'o [u8],
@@ -392,7 +392,7 @@ fn over_step<'o>(
     over_hops(text, spare, table, step.hops(place), own)
 }
 
-/// Goes on over the step of a unit with these bytes of its own.
+/// Follows the text over the step of a unit with these bytes of its own.
 #[inline(never)]
 fn go_over(way: &mut Followed, table: &Table, step: &Step, own: UnitText) -> Result<(), Stop>
     requires named { IsNamedStep table.now.entries step.now }
@@ -408,7 +408,7 @@ fn go_over(way: &mut Followed, table: &Table, step: &Step, own: UnitText) -> Res
     }
 }
 
-/// Goes on over the step of a character, which copies it.
+/// Follows the text over the step of a character that copies it.
 #[inline(always)]
 fn go_over_character(way: &mut Followed, step: &Step, c: char) -> Result<(), Stop>
     requires { Copies way.old.place (slice_index_or step.now way.old.place []) }
@@ -424,7 +424,7 @@ fn go_over_character(way: &mut Followed, step: &Step, c: char) -> Result<(), Sto
     }
 }
 
-/// Goes on over the steps of characters with these bytes, one by one.
+/// Follows the text over the steps of characters with these bytes, one by one.
 fn go_over_each(way: &mut Followed, table: &Table, step: &Step, bytes: &[u8]) -> Result<(), Stop>
     requires named { IsNamedStep table.now.entries step.now }
     ensures { OnOk result (GoesOverAlike table.now.entries step.now bytes.now way.old way.new) }
@@ -435,7 +435,7 @@ fn go_over_each(way: &mut Followed, table: &Table, step: &Step, bytes: &[u8]) ->
     Ok(())
 }
 
-/// Goes on over the steps of characters with these bytes, which copy them.
+/// Follows the text over the steps of characters with these bytes, which copy them.
 #[inline(always)]
 fn go_over_copied(way: &mut Followed, step: &Step, bytes: &[u8]) -> Result<(), Stop>
     requires copied { Copies way.old.place (slice_index_or step.now way.old.place []) }
@@ -477,7 +477,7 @@ impl<'o> Visitor for Followed<'o> {
     }
 }
 
-/// The graph of a tree in a format, where a text follows it up to its end. One that doesn't may have the tree all the same.
+/// The graph of a tree in a format, if a text follows it to its end. A text that doesn't may still have the tree.
 pub(crate) fn graph_followed<'t>(
     alloc: Global,
     tree: &'t Tree,

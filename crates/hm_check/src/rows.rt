@@ -1,4 +1,4 @@
-//! What is found of the rows of a certificate.
+//! What is found of a certificate's rows.
 ghost use Rattle.std.specs.Prelude.{◌≡◌, ◌∷◌, List, map, IfOk};
 ghost use Rattle.hm_cert.specs.Certificate.{AreRows};
 ghost use Rattle.hm_cert.specs.Layout.{told};
@@ -35,7 +35,7 @@ fn sweep<'a>(
     Ok(sweep)
 }
 
-/// The first price of the first layer, by the prices of that layer.
+/// The first price of the first layer, from the prices of that layer.
 fn first_of(row: &[u64]) -> Option<u64>
     ensures { (more : List Row) → result ≡ first_price (map told row.now ∷ more) }
 {
@@ -45,7 +45,7 @@ fn first_of(row: &[u64]) -> Option<u64>
     }
 }
 
-/// What is found by the first price, of a text of `length` bytes.
+/// What is found of the first price, for a text of `length` bytes.
 fn by_first(length: u64, first: Option<u64>) -> Verdict
     ensures { result ≡ verdicts.by_first length first }
 {
@@ -65,7 +65,7 @@ fn by_first(length: u64, first: Option<u64>) -> Verdict
     }
 }
 
-/// What is found by the widths of all rows and by all prices, of a text of `length` bytes.
+/// What is found of the widths of all rows and of all prices, for a text of `length` bytes.
 fn by_prices(
     alloc: Global,
     graph: &Graph,
@@ -82,7 +82,7 @@ fn by_prices(
     }
 }
 
-/// What is found of the rows of a certificate, for a text of `length` bytes.
+/// What is found of a certificate's rows, for a text of `length` bytes.
 pub(crate) fn by_rows(
     alloc: Global,
     graph: &Graph,

@@ -24,22 +24,22 @@ use std::mem;
 pub(crate) struct SweepFound {
     /// Whether each has as many prices as its layer has states.
     pub(crate) right: bool,
-    /// The first row that hasn't, else the first price above its bound.
+    /// The first row of another width, else the first price above its bound.
     pub(crate) why: Option<Why>,
 }
 
 /// What is known from a layer on.
 #[derive(Drop)]
 pub(crate) struct Sweep<'a> {
-    /// After this place are the rows of these layers.
+    /// The rows of these layers are after this place.
     pub(crate) at: RowPlace<'a>,
-    /// The prices of the layer, where all rows have the right widths.
+    /// The prices of the layer, if all rows have the right widths.
     pub(crate) next_row: Vec<u64>,
     pub(crate) found: SweepFound,
     spare: Vec<u64>,
 }
 
-/// Adds to `found` what is found of the row of layer `k`, by the next layer's prices.
+/// Adds to `found` what is found of the row of layer `k`, from the next layer's prices.
 fn judge(found: &mut SweepFound, k: u64, row: &[u64], next_row: &[u64], step: &Step)
     requires below { found.old.right ≡ true → AreBelow (2 ^ 63 + 2 ^ 62) (map told next_row.now) }
     requires low { IsLowStep step.now }
@@ -64,7 +64,7 @@ fn judge(found: &mut SweepFound, k: u64, row: &[u64], next_row: &[u64], step: &S
     }
 }
 
-/// As `judge`, over a step over which no state changes its place and each hop has this length in bytes, where one is given.
+/// As `judge`. If `len` is given, no state changes its place over the step, and each hop writes that many bytes.
 fn judge_over(
     found: &mut SweepFound,
     k: u64,
@@ -110,7 +110,7 @@ fn judge_at_end(k: u64, row: &[u64], last: usize) -> SweepFound
     }
 }
 
-/// Finds the prices of a layer that is left out by those after it, in place of what the row held.
+/// Finds the prices of an omitted layer from those after it. They replace what the row held.
 fn find_followed(next_row: &[u64], row: &mut Vec<u64>, step: &Step) -> Result<(), OutOfMemory>
     requires below { AreBelow (2 ^ 63 + 2 ^ 62) (map told next_row.now) }
     requires low { IsLowStep step.now }
@@ -132,7 +132,7 @@ fn add_to(next_row: &mut Vec<u64>, len: u64)
     add_each(next_row, len);
 }
 
-/// Puts the prices of a layer that is left out in place of those after it. Over most steps no state changes its place.
+/// Replaces the prices of a layer by those of the omitted layer before it. Over most steps no state changes its place.
 fn follow(next_row: &mut Vec<u64>, spare: &mut Vec<u64>, step: &Step) -> Result<(), OutOfMemory>
     requires below { AreBelow (2 ^ 63 + 2 ^ 62) (map told next_row.old.items) }
     requires low { IsLowStep step.now }
@@ -171,7 +171,7 @@ impl<'a> Sweep<'a> {
         })
     }
 
-    /// Goes on to layer `k`, which is left out.
+    /// Goes back to layer `k`, which is omitted.
     fn pass_over(
         &mut self,
         graph: &Graph,
@@ -192,8 +192,8 @@ impl<'a> Sweep<'a> {
         follow(&mut self.next_row, &mut self.spare, step)
     }
 
-    /// Goes on to layer `k`, which is written. Where a length is given, no state changes its place over the step, and each hop
-    /// has this length in bytes.
+    /// Goes back to layer `k`, which is written. If `len` is given, no state changes its place over the step, and each
+    /// hop writes that many bytes.
     fn read_layer(
         &mut self,
         graph: &Graph,
@@ -224,7 +224,7 @@ impl<'a> Sweep<'a> {
         Ok(())
     }
 
-    /// Goes on to layer `k`, the one before the step.
+    /// Goes back to layer `k`, the one before the step.
     pub(crate) fn take_layer(
         &mut self,
         graph: &Graph,
@@ -245,7 +245,7 @@ impl<'a> Sweep<'a> {
         }
     }
 
-    /// As `add_to`, to each price of the layer.
+    /// Adds `len` to each price of the layer.
     fn add(&mut self, len: u64)
         requires below { AreBelow (2 ^ 63 + 2 ^ 62) (map told self.old.next_row.items) }
         requires low { len < 2 ^ 62 }
@@ -256,8 +256,8 @@ impl<'a> Sweep<'a> {
         add_to(&mut self.next_row, len);
     }
 
-    /// Goes on over layers that are written, from the one before a layer down to another, which isn't the first. They
-    /// have the same step, over which no state changes its place, and each hop has this length in bytes.
+    /// Goes back over written layers, from the one before layer `from` down to layer `front`, which isn't the first.
+    /// They have the same step, over which no state changes its place and each hop writes `len` bytes.
     fn read_on(
         &mut self,
         graph: &Graph,
@@ -285,8 +285,8 @@ impl<'a> Sweep<'a> {
         Ok(())
     }
 
-    /// Goes on from a layer over those before it that are left out, as long as no state changes its place, but not to
-    /// the first layer.
+    /// Goes back over the omitted layers before a layer, as long as no state changes its place, but not to the first
+    /// layer.
     pub(crate) fn pass_still(
         &mut self,
         graph: &Graph,
@@ -313,7 +313,7 @@ impl<'a> Sweep<'a> {
         passed.front
     }
 
-    /// Goes on over layers before one that have the same step, where they are written and no state changes its place
+    /// Goes back over layers before one that have the same step, if they are written and no state changes its place
     /// over it, but not to the first layer.
     pub(crate) fn go_on(
         &mut self,

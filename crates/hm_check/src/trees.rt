@@ -24,14 +24,14 @@ fn read_out(alloc: Global, table: &Table, out: &[u8]) -> Result<Tree, Refused>
     }
 }
 
-/// Where the trees differ first.
+/// The first event in which the trees differ.
 fn first_difference(tree: &Tree, wanted: &Tree) -> Option<u32>
     ensures { result ≡ differences.first_difference tree.now wanted.now }
 {
     tree.first_other(wanted)
 }
 
-/// Why a text doesn't have the wanted tree, where it doesn't.
+/// Why a text doesn't have the wanted tree; None if it has it.
 pub(crate) fn find_difference(
     alloc: Global,
     table: &Table,

@@ -7,27 +7,27 @@ use hm_base::Rule;
 pub enum Why {
     /// The certificate is about other rules.
     RulesDiffer,
-    /// The text is refused as a page, at a byte of it.
+    /// The text is refused as a page, at byte `at` of it.
     OutRefused {
         rule: Rule,
         at: u32,
     },
-    /// The tree of the text is another one, from this event on.
+    /// The tree of the text differs from this event on.
     TreesDiffer {
         event: u32,
     },
-    /// The certificate has another number of layers than it has to write.
+    /// The certificate doesn't have as many layers as it has to write.
     WrongLayers {
         got: u64,
         want: u64,
     },
-    /// A layer of the certificate has another number of prices than there are states.
+    /// A layer of the certificate doesn't have as many prices as states.
     WrongWidth {
         layer: u64,
         got: u64,
         want: u64,
     },
-    /// A price is above the bound that the next layer's prices give it; None for a closed price, and for no bound.
+    /// A price is above the bound that follows from the next layer's prices. None is an infinite price, or no bound.
     TooHigh {
         layer: u64,
         state: u64,

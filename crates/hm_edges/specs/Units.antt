@@ -39,7 +39,7 @@ pair_of t c (Some d) = if has_pair t c d then Some d else None
 abbrev pub needs_quotes : ℕ → Bool
 needs_quotes c = is_barred c && not (c == 13 || (c == 34 || c == 39))
 
--- whether a reference to a character of this kind is dear
+-- whether a reference to a character of this kind is costly
 abbrev pub some_costly : List Entry → (ℕ → Bool) → Option ℕ → List ℕ → Bool
 some_costly t kind previous [] = false
 some_costly t kind previous (c ∷ v) = (kind c && is_costly t previous c (next_of v)) || some_costly t kind (Some c) v

@@ -27,7 +27,7 @@ use crate::units::TextKind;
 use hm_base::{OutOfMemory, is_space};
 use hm_refs::{NameId, Node, Table, best_number};
 
-/// A character that is to be spelled, as its unit has it.
+/// A character to be spelled, with what its unit holds.
 #[derive(Clone, Copy)]
 pub(crate) struct Character {
     pub(crate) kind: TextKind,
@@ -36,7 +36,7 @@ pub(crate) struct Character {
     pub(crate) more: bool,
 }
 
-/// The spot of a character: that of its text, or of the value that it stands in.
+/// The spot of a character: that of its text, or of the value that it is in.
 fn spot_at(kind: TextKind, at: Where) -> Spot
     ensures { spot_of result ≡ characters.spot_at (kind_of kind) (where_of at) }
 {
@@ -56,6 +56,7 @@ fn is_barred(c: char) -> bool
     is_space(c) || c == '"' || c == '\'' || c == '=' || c == '<' || c == '>' || c == '`'
 }
 
+/// Whether this spot allows the character as itself.
 fn may_stand_in(spot: Spot, c: char) -> bool
     ensures { result ≡ spots.may_stand_in (spot_of spot) c }
 {
@@ -69,6 +70,7 @@ fn may_stand_in(spot: Spot, c: char) -> bool
     }
 }
 
+/// Whether the character may be written as itself in this spot. `ascii` says whether the output is of ASCII.
 #[tactic(auto, unfolding(hm_spelling_spec::specs::Characters::may_stand))]
 fn may_stand(ascii: bool, spot: Spot, c: char) -> bool
     ensures { result ≡ spots.may_stand ascii (spot_of spot) c }
@@ -76,7 +78,7 @@ fn may_stand(ascii: bool, spot: Spot, c: char) -> bool
     is_writable(ascii, c) && may_stand_in(spot, c)
 }
 
-/// What is pending after these bytes, where they break nothing.
+/// What is pending after these bytes; None if they change what was written before.
 fn run(table: &Table, spot: Spot, pending: Pending, bytes: &[u8]) -> Option<Pending>
     requires { HasNodes table.now pending }
     ensures run { option_map (pending_of table.now) result
@@ -90,7 +92,7 @@ fn run(table: &Table, spot: Spot, pending: Pending, bytes: &[u8]) -> Option<Pend
     Some(after)
 }
 
-/// What is pending after a character as itself, where its bytes leave `after`.
+/// What is pending after a character as itself, if its bytes leave `after`.
 fn itself_to(table: &Table, spot: Spot, c: char, after: Pending) -> Pending
     requires { HasNodes table.now after }
     ensures to { pending_of table.now result ≡ characters.itself_to (spot_of spot) c (pending_of table.now after) }
@@ -106,7 +108,7 @@ fn itself_to(table: &Table, spot: Spot, c: char, after: Pending) -> Pending
     after
 }
 
-/// As itself, where it may stand and breaks nothing.
+/// Adds the edge of the character as itself, if it may be written so and doesn't change what was written before.
 fn add_as_itself(
     into: &mut Vec<Edge>,
     table: &Table,
@@ -134,6 +136,7 @@ fn add_as_itself(
     }
 }
 
+/// Whether the name ends with `;`.
 fn is_closed(name: &[u8]) -> bool
     ensures { result ≡ names.is_closed name.now }
 {
@@ -157,7 +160,7 @@ fn after_name(table: &Table, id: NameId) -> Pending
     Pending::Named { node }
 }
 
-/// What is pending after a name for two code points, the second of which is due.
+/// What is pending after a name for two code points: the second one has still to come.
 #[tactic(auto, unfolding(hm_graph_laws::specs::CharacterEdges::after_pair))]
 fn after_pair(table: &Table, id: NameId) -> Pending
     requires { id < length table.now.entries }
@@ -171,6 +174,7 @@ fn after_pair(table: &Table, id: NameId) -> Pending
     Pending::Half { left: Some(node) }
 }
 
+/// What is pending after a name for one code point or for two.
 fn after_by(is_pair: bool, table: &Table, id: NameId) -> Pending
     requires { id < length table.now.entries }
     ensures to { pending_of table.now result ≡ after_by is_pair (entry_at table.now.entries id).name }
@@ -183,7 +187,7 @@ fn after_by(is_pair: bool, table: &Table, id: NameId) -> Pending
     }
 }
 
-/// Whether the name gives the character and this second one, or no second one.
+/// Whether the name gives the character, and after it exactly this second one, if any.
 fn gives(table: &Table, id: NameId, c: char, second: Option<char>) -> bool
     requires { id < length table.now.entries }
     ensures { result ≡ bytes_eq (entry_at table.now.entries id).points (c ∷ option_to_list second) }
@@ -192,7 +196,7 @@ fn gives(table: &Table, id: NameId, c: char, second: Option<char>) -> bool
     points.first == c && points.second == second
 }
 
-/// By this name, where it gives them.
+/// Adds the edge of this name, if it gives the characters.
 fn add_name(
     into: &mut Vec<Edge>,
     table: &Table,
@@ -210,7 +214,7 @@ fn add_name(
     add_if(there, into, Piece::Name { id }, at, to)
 }
 
-/// By the names that give the character and this second one, or no second one.
+/// Adds the edges of all names that give the character, and after it exactly this second one, if any.
 fn add_names(
     into: &mut Vec<Edge>,
     table: &Table,
@@ -227,7 +231,7 @@ fn add_names(
     Ok(())
 }
 
-/// By the names that give the character and the next one.
+/// Adds the edges of the names that give the character and the next one, if there is a next one.
 fn add_pairs(
     into: &mut Vec<Edge>,
     table: &Table,
@@ -244,7 +248,7 @@ fn add_pairs(
     }
 }
 
-/// By the best number, without and with a `;`.
+/// Adds the edges of the decimal reference, without and with a `;`.
 fn add_decimals(into: &mut Vec<Edge>, c: char, at: Where) -> Result<(), OutOfMemory>
     ensures { (v : TableView) (u : units.Unit) → AddsEdges result v u into.old.items into.new.items (map (characters.kept_at (where_of at))
         (characters.by_decimal (best_number c))) }
@@ -274,7 +278,7 @@ fn add_decimals(into: &mut Vec<Edge>, c: char, at: Where) -> Result<(), OutOfMem
     }
 }
 
-/// Whether a reference in hexadecimal is shorter than in decimal.
+/// Whether a hexadecimal reference to the character is shorter than a decimal one.
 fn is_shorter_in_hexadecimal(c: char) -> bool
     ensures { result ≡ (nat_le 1000000 c && nat_le c 1048575) }
 {
@@ -282,7 +286,7 @@ fn is_shorter_in_hexadecimal(c: char) -> bool
     1_000_000 <= number && number <= 1_048_575
 }
 
-/// In hexadecimal, where that is shorter.
+/// Adds the edges of the hexadecimal reference, if it is shorter than the decimal one.
 fn add_hexadecimals(into: &mut Vec<Edge>, c: char, at: Where) -> Result<(), OutOfMemory>
     ensures { (v : TableView) (u : units.Unit) → AddsEdges result v u into.old.items into.new.items (map (characters.kept_at (where_of at))
         (characters.by_hexadecimal c)) }
@@ -311,7 +315,8 @@ fn add_hexadecimals(into: &mut Vec<Edge>, c: char, at: Where) -> Result<(), OutO
     )
 }
 
-/// Whether a reference to the character is an edge: its `&` breaks nothing, and the character isn't plain.
+/// Whether references to the character are edges: the character isn't plain, and an `&` doesn't change what was written
+/// before.
 fn may_refer(table: &Table, spot: Spot, c: char, pending: &Pending) -> bool
     requires { HasNodes table.now pending.now }
     ensures { result ≡ (is_some (steps.step table.now.entries (spot_of spot) (pending_of table.now pending.now) 38) && needs_reference table.now.entries c) }
@@ -319,7 +324,7 @@ fn may_refer(table: &Table, spot: Spot, c: char, pending: &Pending) -> bool
     step(*pending, table, spot, b'&').is_some() && !table.is_plain(c)
 }
 
-/// By references: by names, by names for two code points, by the number.
+/// Adds the edges of references: by name, by a name for two code points, by number.
 fn add_references(
     into: &mut Vec<Edge>,
     table: &Table,
@@ -336,7 +341,7 @@ fn add_references(
     add_hexadecimals(into, c, at)
 }
 
-/// What is pending after the second code point of a name, where that is due.
+/// What is pending after the second code point of a name; None if the state isn't within such a name.
 fn after_half(pending: &Pending) -> Option<Pending>
     ensures to { (v : TableView) → option_map (pending_of v) result ≡ option_map characters.after_half (characters.half_of (pending_of v pending.now)) }
     ensures nodes { (v : TableView) → HasNodes v pending.now → IfSome result (HasNodes v) }
@@ -348,7 +353,7 @@ fn after_half(pending: &Pending) -> Option<Pending>
     }
 }
 
-/// The edges outside of sections.
+/// Adds the edges outside of CDATA sections.
 fn add_choices(
     into: &mut Vec<Edge>,
     table: &Table,
@@ -376,7 +381,7 @@ fn add_choices(
     }
 }
 
-/// The edges of a character outside of sections, those that open one among them.
+/// Adds the edges from outside a CDATA section, those that open one included.
 fn add_outside_edges(
     into: &mut Vec<Edge>,
     table: &Table,
@@ -401,7 +406,7 @@ fn add_outside_edges(
     }
 }
 
-/// Adds the edges of a character from a state.
+/// Adds the edges of a character from a state, at the end of the buffer.
 pub(crate) fn add_character_edges(
     into: &mut Vec<Edge>,
     table: &Table,

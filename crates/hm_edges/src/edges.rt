@@ -32,7 +32,7 @@ pub(crate) fn add(
     Ok(())
 }
 
-/// Adds an edge at the end, where there is one.
+/// Adds an edge at the end if `there`.
 pub(crate) fn add_if(
     there: bool,
     into: &mut Vec<Edge>,
@@ -49,6 +49,7 @@ pub(crate) fn add_if(
     }
 }
 
+/// Whether the last tag is an omitted end tag after which `tbody` and `colgroup` keep their start tags.
 fn is_loose(at: Where) -> bool
     ensures { result ≡ tags.is_loose (where_of at) }
 {
@@ -58,6 +59,7 @@ fn is_loose(at: Where) -> bool
     }
 }
 
+/// The place in the markup, with the mark of a loose end removed.
 fn unloosed(at: Where) -> Where
     ensures { where_of result ≡ tags.unloosed (where_of at) }
 {
@@ -67,14 +69,16 @@ fn unloosed(at: Where) -> Where
     }
 }
 
-/// Whether a start tag that may be left out is left out: not after a loose end, where it is firm.
+/// Whether an optional start tag may be omitted. `tbody` and `colgroup` (`firm`) may not directly after an omitted end
+/// tag.
 fn may_fall(omits: bool, firm: bool, at: Where) -> bool
     ensures { result ≡ (omits && not (firm && tags.is_loose (where_of at))) }
 {
     omits && !(firm && is_loose(at))
 }
 
-/// A start tag: nothing, where it may be left out; the tag; the tag with a `/`.
+/// Adds the edges of a start tag without attributes: nothing, if it may be omitted; the tag; the tag with a `/`, if it
+/// may close itself.
 fn add_start_edges(
     into: &mut Vec<Edge>,
     omits: bool,
@@ -102,7 +106,7 @@ fn add_start_edges(
     )
 }
 
-/// The state after an end tag that is left out.
+/// The state after an omitted end tag.
 fn after_left_out(loosens: bool, from: State) -> State
     ensures state { (v : TableView) → state_of v result ≡ tags.after_left_out loosens (state_of v from) }
     ensures nodes { (v : TableView) → HasNodes v from.pending → HasNodes v result.pending }
@@ -117,6 +121,7 @@ fn after_left_out(loosens: bool, from: State) -> State
     }
 }
 
+/// Whether the element was closed by the `/` of its start tag.
 fn is_self_closed(at: Where) -> bool
     ensures { result ≡ tags.is_self_closed (where_of at) }
 {
@@ -126,7 +131,8 @@ fn is_self_closed(at: Where) -> bool
     }
 }
 
-/// An end tag: nothing, after a start tag that closed itself; else nothing, where it may be left out, and the tag.
+/// Adds the edges of an end tag: only nothing, if the start tag closed itself; else nothing, if it may be omitted, and
+/// the tag.
 fn add_end_edges(
     into: &mut Vec<Edge>,
     omits: bool,
@@ -144,6 +150,7 @@ fn add_end_edges(
     add(into, Piece::EndTag, Where::Outside, Pending::Nothing)
 }
 
+/// Whether the last attribute has a value in quotes.
 fn is_after_quoted(at: Where) -> bool
     ensures { result ≡ attributes.is_after_quoted (where_of at) }
 {
@@ -153,14 +160,14 @@ fn is_after_quoted(at: Where) -> bool
     }
 }
 
-/// Whether a space stands before an attribute: always, except after a quote where attributes may touch.
+/// Whether a space is written before an attribute: always, but not after a quote with `tight`.
 fn has_gap(tight: bool, at: Where) -> bool
     ensures { result ≡ not (tight && attributes.is_after_quoted (where_of at)) }
 {
     !(tight && is_after_quoted(at))
 }
 
-/// An attribute with an empty value.
+/// Adds the edge of an attribute with an empty value.
 fn add_bare_edges(into: &mut Vec<Edge>, tight: bool, from: State) -> Result<(), OutOfMemory>
     ensures { (v : TableView) (n : List ℕ)
         → AddsEdges result v (units.bare_attribute n) into.old.items into.new.items (attributes.bare_edges tight n (state_of v from)) }
@@ -177,7 +184,7 @@ fn add_bare_edges(into: &mut Vec<Edge>, tight: bool, from: State) -> Result<(), 
     )
 }
 
-/// The name of an attribute whose value isn't empty, its `=` and what opens the value.
+/// Adds the edges of the name of an attribute whose value isn't empty, its `=` and what opens the value.
 fn add_opening_edges(
     into: &mut Vec<Edge>,
     tight: bool,
@@ -218,7 +225,7 @@ fn add_opening_edges(
     )
 }
 
-/// The spot of the characters of a value.
+/// The spot of the characters of a value, by its quotes.
 pub(crate) fn value_spot(at: Where) -> Spot
     ensures { spot_of result ≡ states.value_spot (where_of at) }
 {
@@ -229,7 +236,7 @@ pub(crate) fn value_spot(at: Where) -> Spot
     }
 }
 
-/// What closes a value.
+/// Adds the edge that closes a value: its quote, or no byte.
 fn add_closed(into: &mut Vec<Edge>, at: Where) -> Result<(), OutOfMemory>
     ensures { (v : TableView) → AddsEdges result v units.attribute_end into.old.items into.new.items (attributes.closed_at (where_of at)) }
 {
@@ -251,7 +258,7 @@ fn add_closed(into: &mut Vec<Edge>, at: Where) -> Result<(), OutOfMemory>
     }
 }
 
-/// What closes a value, where it may end.
+/// Adds the edge that closes a value, if the value may end here.
 fn add_closing_edges(into: &mut Vec<Edge>, table: &Table, from: State) -> Result<(), OutOfMemory>
     requires { HasNodes table.now from.pending }
     ensures { AddsEdges result table.now units.attribute_end into.old.items into.new.items (attributes.closing_edges table.now.entries (state_of table.now from)) }
@@ -263,6 +270,7 @@ fn add_closing_edges(into: &mut Vec<Edge>, table: &Table, from: State) -> Result
     }
 }
 
+/// Whether the last attribute has a value without quotes.
 fn is_after_unquoted(at: Where) -> bool
     ensures { result ≡ attributes.is_after_unquoted (where_of at) }
 {
@@ -272,7 +280,8 @@ fn is_after_unquoted(at: Where) -> bool
     }
 }
 
-/// `>`, and where the tag may close itself `/>`, which stands apart from a value without quotes.
+/// Adds the edges of `>`, and of `/>` if the tag may close itself. A space goes between a value without quotes and
+/// `/>`.
 fn add_close_edges(into: &mut Vec<Edge>, closes: bool, from: State) -> Result<(), OutOfMemory>
     ensures { (v : TableView) → AddsEdges result v (units.tag_close closes) into.old.items into.new.items (attributes.close_edges closes (state_of v from)) }
 {
@@ -298,7 +307,7 @@ fn add_close_edges(into: &mut Vec<Edge>, closes: bool, from: State) -> Result<()
     )
 }
 
-/// Gives the edges of a unit from a state, in their order and in place of what the buffer held.
+/// Finds the edges of a unit from a state, in their order. They replace what the buffer held.
 ///
 /// A reference is an edge only for characters that aren't plain. After an error the buffer holds a prefix of the edges.
 pub fn find_edges(

@@ -11,7 +11,7 @@ use crate::units::Unit;
 use hm_refs::Table;
 use hm_refs::laws::every_table;
 
-/// How many bytes the unit's own are: of its name, of what has no choice, or of the character.
+/// The length of the unit's own text in bytes: of its name, of bytes without a choice, or of the character.
 fn own_len(unit: Unit) -> u64
     ensures value { (t : List Entry) (u : units.Unit) → StandsFor t unit u → result ≡ length (own_bytes u) }
     ensures few { result < 2 ^ 32 }
@@ -43,7 +43,7 @@ fn own_len(unit: Unit) -> u64
     }
 }
 
-/// How many bytes open a value after the name.
+/// How many bytes open a value after the attribute's name.
 fn opening_len(form: Quoting) -> u64
     ensures value { (n : List ℕ) → length (with_opening form n) ≡ length n + result }
     ensures few { result ≤ 2 }
@@ -56,7 +56,7 @@ fn opening_len(form: Quoting) -> u64
     }
 }
 
-/// How many digits the number has in this base.
+/// The number of digits of `number` in this base.
 fn digit_count(number: u32, base: u32) -> u64
     requires low { 2 ≤ base }
     ensures value { result ≡ length (digits base false number) }
@@ -71,7 +71,8 @@ fn digit_count(number: u32, base: u32) -> u64
     count
 }
 
-/// How many bytes the piece writes for the unit, which is one that `find_edges` gives for it: fewer than 2^33.
+/// The length in bytes of what the piece writes for the unit. The piece is one that `find_edges` gives for it. Less
+/// than 2^33.
 pub fn piece_len(unit: Unit, piece: Piece, table: &Table) -> u64
     requires { HasName table.now.entries piece }
     ensures value { (u : units.Unit) → StandsFor table.now.entries unit u → result ≡ length (piece_bytes table.now.entries u piece) }

@@ -1,4 +1,4 @@
-//! What an edge writes, and where it leads. A piece holds neither name nor character, so that like edges of like units are
+//! What an edge writes, and where it leads. A piece holds neither name nor character, so that edges of equal units are
 //! equal.
 use crate::states::State;
 use hm_refs::NameId;
@@ -16,9 +16,9 @@ pub enum Quoting {
 #[derive(Clone, Copy, Debug, PartialEq, Eq)]
 pub enum Piece {
     Nothing,
-    /// The unit's own bytes: those without a choice, or the character.
+    /// The unit's own bytes: bytes without a choice, or the character.
     Itself,
-    /// A start tag, with a `/` where it closes itself.
+    /// A start tag, with a `/` if it closes itself.
     StartTag { closes: bool },
     /// `<` and the name.
     TagName,
@@ -26,7 +26,7 @@ pub enum Piece {
     Attribute { gap: bool, form: Quoting },
     /// The quote that closes a value.
     Quote { double: bool },
-    /// `>`, with a `/` before it where the tag closes itself, and a space where that has to stand apart.
+    /// `>`, with a `/` before it if the tag closes itself, and a space if one is needed before that.
     TagClose { space: bool, closes: bool },
     EndTag,
     /// A character reference by name.

@@ -1,4 +1,4 @@
-//! Characters in CDATA sections, which a text of SVG may have.
+//! Characters in CDATA sections, which are allowed in texts of SVG.
 ghost use Rattle.std.specs.Prelude.{◌≡◌, ◌&&◌, [], not, ℕ, Option, is_some, if◌then◌else◌, encode_utf8, codes};
 ghost use Rattle.hm_spelling_spec.specs.Characters as spots;
 ghost use Rattle.hm_refs.specs.Tables.{TableView};
@@ -17,7 +17,8 @@ use crate::units::TextKind;
 use hm_base::OutOfMemory;
 use hm_refs::best_number;
 
-/// Whether the character may be written as itself at all: it is no CR, and where all is to be ASCII it is, or has no number.
+/// Whether the character may be written as itself anywhere: it isn't CR, and with `ascii` it is of ASCII or no
+/// reference can give it.
 #[tactic(auto, unfolding(hm_spelling_spec::specs::Characters::is_writable))]
 pub(crate) fn is_writable(ascii: bool, c: char) -> bool
     ensures { result ≡ spots.is_writable ascii c }
@@ -25,6 +26,7 @@ pub(crate) fn is_writable(ascii: bool, c: char) -> bool
     c != '\r' && (!ascii || c < '\u{80}' || best_number(c).is_none())
 }
 
+/// Whether the place is in a CDATA section.
 pub(crate) fn is_in_section(at: Where) -> bool
     ensures { result ≡ characters.is_in_section (where_of at) }
 {
@@ -34,6 +36,7 @@ pub(crate) fn is_in_section(at: Where) -> bool
     }
 }
 
+/// Whether the place is outside of tags, values and sections.
 fn is_outside(at: Where) -> bool
     ensures { result ≡ characters.is_outside (where_of at) }
 {
@@ -43,6 +46,7 @@ fn is_outside(at: Where) -> bool
     }
 }
 
+/// Whether the second code point of a name has still to come.
 fn is_half(pending: &Pending) -> bool
     ensures { (v : TableView) → result ≡ is_some (characters.half_of (pending_of v pending.now)) }
 {
@@ -52,6 +56,7 @@ fn is_half(pending: &Pending) -> bool
     }
 }
 
+/// Whether the text is one of SVG.
 fn is_foreign(kind: TextKind) -> bool
     ensures { result ≡ is_foreign_kind kind }
 {
@@ -61,7 +66,7 @@ fn is_foreign(kind: TextKind) -> bool
     }
 }
 
-/// Whether a section may begin: in a text of SVG, where no code point is due.
+/// Whether a CDATA section may start here: in a text of SVG, and not within a name for two code points.
 pub(crate) fn may_open(kind: TextKind, from: &State) -> bool
     ensures { (v : TableView) → result ≡ (is_foreign_kind kind && (characters.is_outside (where_of from.now.at) && not (is_some (characters.half_of (pending_of v from.now.pending))))) }
 {
@@ -82,7 +87,7 @@ fn in_section_after(c: char, pending: Pending) -> Pending
     }
 }
 
-/// Whether `>` would end the section.
+/// Whether `>` would end the section here.
 fn closes_section(c: char, pending: &Pending) -> bool
     ensures { (v : TableView) → result ≡ characters.closes_section c (pending_of v pending.now) }
 {
@@ -92,7 +97,7 @@ fn closes_section(c: char, pending: &Pending) -> bool
     }
 }
 
-/// The character in a section: which goes on, where there is a next character, or ends.
+/// Adds the edges of a character in a section: the section goes on, if there is a next character, or ends.
 fn add_going_on(
     into: &mut Vec<Edge>,
     opens: bool,
@@ -125,7 +130,7 @@ fn add_going_on(
     )
 }
 
-/// The character in a section that is open.
+/// Adds the edges of a character in a section that is open.
 pub(crate) fn add_section_edges(
     into: &mut Vec<Edge>,
     ascii: bool,
@@ -143,7 +148,7 @@ pub(crate) fn add_section_edges(
     }
 }
 
-/// The character opens a section.
+/// Adds the edges of a character that opens a section.
 pub(crate) fn add_opened_sections(
     into: &mut Vec<Edge>,
     ascii: bool,

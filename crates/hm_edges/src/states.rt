@@ -1,15 +1,15 @@
-//! The states between two units: where in the markup a spelling stands, and what its bytes leave pending.
+//! The states between two units: where in the markup the text has got to, and what its bytes leave pending.
 use hm_refs::Node;
 
-/// Where in the markup a spelling stands.
+/// Where in the markup the text has got to.
 #[derive(Clone, Copy, Debug, Default, PartialEq, Eq)]
 pub enum Where {
     /// Outside of tags.
     #[default]
     Outside,
-    /// Outside of tags, after an end tag of a table's section or of colgroup that was left out.
+    /// Outside of tags, after the omitted end tag of a table's section or of `colgroup`.
     Loose,
-    /// After a start tag of SVG with a `/`, which stands for the end tag as well.
+    /// After a start tag of SVG with a `/`, which ends the element too.
     SelfClosed,
     /// In a tag, after its name or an attribute without value.
     AfterName,
@@ -27,27 +27,28 @@ pub enum Where {
     InSection,
 }
 
-/// What the bytes that were written may become together with those that follow. A place in the names of references is a
-/// node of the table's trie.
+/// What the last bytes may become together with those that follow. A place in the names of references is a node of the
+/// table's trie.
 #[derive(Clone, Copy, Debug, Default, PartialEq, Eq)]
 pub enum Pending {
     #[default]
     Nothing,
-    /// After a `<` that stands as itself.
+    /// After a `<` that is text.
     LessThan,
-    /// After `&#`, with the `&` as itself.
+    /// After `&#`, whose `&` is text.
     Hash,
-    /// After `&#x`, with the `&` as itself.
+    /// After `&#x`, whose `&` is text.
     HashX,
     /// After a decimal reference without `;`.
     Decimal,
     /// After a hexadecimal reference without `;`.
     Hexadecimal,
-    /// After the bytes that lead to the node, with the `&` as itself.
+    /// After `&` and the bytes that lead to the node, where the `&` is text.
     Ampersand { node: Node },
-    /// After the bytes that lead to the node, which begin with a name without `;`.
+    /// After `&` and the bytes that lead to the node, which start with a name without `;`.
     Named { node: Node },
-    /// After a name for two code points, the second of which is due; the name, where it has no `;`.
+    /// After a name for two code points, of which the second has still to come. `left` is the name's node if it has no
+    /// `;`.
     Half { left: Option<Node> },
     /// After `]` in a section.
     OneBracket,
@@ -55,16 +56,16 @@ pub enum Pending {
     TwoBrackets,
 }
 
-/// Where a spelling stands, and what is pending there. Two states of a table that mean the same are equal.
-/// The default is the state before the first unit.
+/// Where in the markup the text has got to, and what is pending there. Two states of a table that mean the same are
+/// equal. The default is the state before the first unit.
 #[derive(Clone, Copy, Default, PartialEq, Eq)]
 pub struct State {
     pub at: Where,
     pub pending: Pending,
 }
 
-/// Where characters are spelled: in ordinary text, in title or textarea, in an element of SVG, in a value without quotes,
-/// in double or in single quotes.
+/// Where characters are spelled: in ordinary text, in `title` or `textarea`, in an element of SVG, in a value without
+/// quotes, in double or in single quotes.
 #[derive(Clone, Copy, PartialEq, Eq)]
 pub enum Spot {
     Text,

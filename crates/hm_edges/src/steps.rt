@@ -1,4 +1,4 @@
-//! What a byte does to what is pending.
+//! What one more byte does to what is pending.
 ghost use Rattle.std.specs.Prelude.{◌≡◌, ◌≤◌, ◌&&◌, ◌||◌, ◌==◌, ◌++◌, ◌∷◌, [], IfSome};
 ghost use Rattle.std.specs.Option.{option_map};
 ghost use Rattle.hm_base.specs.Bytes.{is_digit_of};
@@ -37,14 +37,14 @@ fn is_digit(byte: u8, base: u32) -> bool
     char::from(byte).is_digit(base)
 }
 
-/// Whether the byte is `=`, a letter or a digit.
+/// Whether the byte stops a name without `;` in a value from being a reference: it is `=`, a letter or a digit.
 fn blocks(byte: u8) -> bool
     ensures { result ≡ refs.blocks byte }
 {
     byte == b'=' || byte.is_ascii_alphanumeric()
 }
 
-/// Whether the byte makes markup of a `<` before it (#tag-open-state).
+/// Whether the byte makes a `<` before it markup (#tag-open-state).
 #[tactic(auto, unfolding(hm_spelling_spec::specs::Characters::opens_text, hm_base::specs::Bytes::is_letter))]
 fn opens_text(byte: u8) -> bool
     ensures { result ≡ spots.opens_text byte }
@@ -52,7 +52,7 @@ fn opens_text(byte: u8) -> bool
     byte.is_ascii_alphabetic() || byte == b'!' || byte == b'/' || byte == b'?'
 }
 
-/// Whether the byte makes markup of a `<` before it in this spot.
+/// Whether the byte makes a `<` before it markup in this spot.
 fn opens(spot: Spot, byte: u8) -> bool
     ensures { result ≡ spots.opens (spot_of spot) byte }
 {
@@ -80,20 +80,21 @@ fn goes_on_hexadecimal(byte: u8) -> bool
     is_digit(byte, 16) || byte == b';'
 }
 
-/// Nothing is pending, unless that is broken.
+/// Nothing is pending; None if `broken`.
 fn unless(broken: bool) -> Option<Pending>
     ensures { (v : TableView) → (option_map (pending_of v) result ≡ steps.unless broken states.nothing) × IfSome result (HasNodes v) }
 {
     if broken { None } else { Some(Pending::Nothing) }
 }
 
+/// Whether the byte is `x` or `X`.
 fn is_x(byte: u8) -> bool
     ensures { result ≡ (120 == byte || 88 == byte) }
 {
     byte == b'x' || byte == b'X'
 }
 
-/// After `&#`.
+/// What is pending after `&#` and the byte.
 fn after_hash(byte: u8) -> Option<Pending>
     ensures { (v : TableView) → (option_map (pending_of v) result ≡ steps.step [] spots.text states.hash byte) × IfSome result (HasNodes v) }
 {
@@ -103,6 +104,7 @@ fn after_hash(byte: u8) -> Option<Pending>
     unless(is_digit(byte, 10))
 }
 
+/// Whether only the `&` is pending.
 fn is_root(table: &Table, node: Node) -> bool
     requires { IsNode table.now node }
     ensures { result ≡ steps.is_root (front_at table.now node) }
@@ -110,6 +112,7 @@ fn is_root(table: &Table, node: Node) -> bool
     node == table.root()
 }
 
+/// Whether the byte is `#`, directly after the `&`.
 fn is_hash_at_root(table: &Table, node: Node, byte: u8) -> bool
     requires { IsNode table.now node }
     ensures { result ≡ (steps.is_root (front_at table.now node) && steps.is_hash byte) }
@@ -117,6 +120,7 @@ fn is_hash_at_root(table: &Table, node: Node, byte: u8) -> bool
     byte == b'#' && is_root(table, node)
 }
 
+/// Whether the bytes of the node are a name.
 fn is_name(table: &Table, node: Node) -> bool
     requires { IsNode table.now node }
     ensures { result ≡ is_name table.now.entries (front_at table.now node) }
@@ -124,6 +128,7 @@ fn is_name(table: &Table, node: Node) -> bool
     table.name_at(node).is_some()
 }
 
+/// Whether some name starts with the bytes of the node and the byte.
 fn has_child(table: &Table, node: Node, byte: u8) -> bool
     requires { IsNode table.now node }
     ensures { result ≡ is_front table.now.entries (front_at table.now node ++ byte ∷ []) }
@@ -131,7 +136,7 @@ fn has_child(table: &Table, node: Node, byte: u8) -> bool
     table.child(node, byte).is_some()
 }
 
-/// Whether the byte and those of the node are a name.
+/// Whether the bytes of the node and the byte are a name.
 fn is_name_after(table: &Table, node: Node, byte: u8) -> bool
     requires { IsNode table.now node }
     ensures { result ≡ is_name table.now.entries (front_at table.now node ++ byte ∷ []) }
@@ -142,7 +147,7 @@ fn is_name_after(table: &Table, node: Node, byte: u8) -> bool
     }
 }
 
-/// On to the child, with the `&` as itself.
+/// On to the child, where the `&` is text.
 fn onto_ampersand(table: &Table, node: Node, byte: u8) -> Option<Pending>
     requires { IsNode table.now node }
     ensures step { option_map (pending_of table.now) result ≡ steps.onto states.ampersand table.now.entries (front_at table.now node) byte }
@@ -154,7 +159,7 @@ fn onto_ampersand(table: &Table, node: Node, byte: u8) -> Option<Pending>
     }
 }
 
-/// On to the child, after a name.
+/// On to the child, whose bytes start with a name without `;`.
 fn onto_named(table: &Table, node: Node, byte: u8) -> Option<Pending>
     requires { IsNode table.now node }
     ensures step { option_map (pending_of table.now) result ≡ steps.onto states.named table.now.entries (front_at table.now node) byte }
@@ -166,6 +171,7 @@ fn onto_named(table: &Table, node: Node, byte: u8) -> Option<Pending>
     }
 }
 
+/// What is pending in a text after one more byte, if `&` and the bytes of the node are text.
 #[tactic(auto, unfolding(hm_graph_laws::specs::Steps::ampersand_in_text))]
 fn ampersand_in_text(table: &Table, node: Node, byte: u8) -> Option<Pending>
     requires { IsNode table.now node }
@@ -181,6 +187,7 @@ fn ampersand_in_text(table: &Table, node: Node, byte: u8) -> Option<Pending>
     onto_ampersand(table, node, byte)
 }
 
+/// Whether the bytes of the node and the byte are a name with `;`.
 fn is_closed_name_after(table: &Table, node: Node, byte: u8) -> bool
     requires { IsNode table.now node }
     ensures { result ≡ (is_name table.now.entries (front_at table.now node ++ byte ∷ []) && refs.is_semicolon byte) }
@@ -188,6 +195,7 @@ fn is_closed_name_after(table: &Table, node: Node, byte: u8) -> bool
     is_name_after(table, node, byte) && byte == b';'
 }
 
+/// What is pending in a value after one more byte, if `&` and the bytes of the node are text.
 #[tactic(auto, unfolding(hm_graph_laws::specs::Steps::ampersand_in_value))]
 fn ampersand_in_value(table: &Table, node: Node, byte: u8) -> Option<Pending>
     requires { IsNode table.now node }
@@ -209,6 +217,7 @@ fn ampersand_in_value(table: &Table, node: Node, byte: u8) -> Option<Pending>
     onto_ampersand(table, node, byte)
 }
 
+/// What is pending in a text after one more byte, if the bytes of the node start with a reference without `;`.
 #[tactic(auto, unfolding(hm_graph_laws::specs::Steps::named_in_text))]
 fn named_in_text(table: &Table, node: Node, byte: u8) -> Option<Pending>
     requires { IsNode table.now node }
@@ -221,7 +230,7 @@ fn named_in_text(table: &Table, node: Node, byte: u8) -> Option<Pending>
     onto_named(table, node, byte)
 }
 
-/// Whether the byte makes something else of a name without `;` in a value (#named-character-reference-state).
+/// Whether in a value the byte changes what a name without `;` before it means (#named-character-reference-state).
 fn breaks_name(table: &Table, node: Node, byte: u8) -> bool
     requires { IsNode table.now node }
     ensures { result ≡ (refs.blocks byte || (refs.is_semicolon byte && is_front table.now.entries (front_at table.now node ++ byte ∷ []))) }
@@ -229,6 +238,7 @@ fn breaks_name(table: &Table, node: Node, byte: u8) -> bool
     blocks(byte) || (byte == b';' && has_child(table, node, byte))
 }
 
+/// What is pending in a value after one more byte, if the bytes of the node are a reference without `;`.
 #[tactic(auto, unfolding(hm_graph_laws::specs::Steps::named_in_value))]
 fn named_in_value(table: &Table, node: Node, byte: u8) -> Option<Pending>
     requires { IsNode table.now node }
@@ -242,9 +252,9 @@ fn named_in_value(table: &Table, node: Node, byte: u8) -> Option<Pending>
     }
 }
 
-/// What is pending after one more byte; None where the byte makes something else of what was written.
+/// What is pending after one more byte; None if the byte changes what was written before it.
 ///
-/// None as well while a code point is due, and after brackets in a section, where it isn't asked.
+/// Also None for `Half`, `OneBracket` and `TwoBrackets`, for which it is never called.
 pub fn step(pending: Pending, table: &Table, spot: Spot, byte: u8) -> Option<Pending>
     requires { HasNodes table.now pending }
     ensures step { option_map (pending_of table.now) result ≡ steps.step table.now.entries (spot_of spot) (pending_of table.now pending) byte }

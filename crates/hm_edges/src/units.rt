@@ -1,6 +1,7 @@
-//! Units as a writer holds them: with all that their edges depend on, and no more, so that like units are equal.
+//! Units as a writer holds them: all that their edges depend on, and no more, so that units with the same edges are
+//! equal.
 
-/// The texts in which characters stand.
+/// The kinds of text that have characters.
 #[derive(Clone, Copy, Debug, PartialEq, Eq, Hash)]
 pub enum TextKind {
     Text,
@@ -9,37 +10,37 @@ pub enum TextKind {
     Value,
 }
 
-/// Whether a value has characters of a kind, and whether a reference to one of them is dear.
+/// Whether a value has characters of a kind, and whether a reference to one of them is costly.
 #[derive(Clone, Copy, Debug, PartialEq, Eq, Hash)]
 pub enum Need {
     /// It has none.
     Absent,
-    /// It has some, and no reference to one is known to be dear.
+    /// It has some, and no reference to one is known to be costly.
     Cheap,
-    /// A reference to one of them is dear: it has at least three bytes more than the character itself.
+    /// A reference to one of them is costly: it takes at least three bytes more than the character itself.
     Dear,
 }
 
-/// What a value has that can't stand as itself in each of its forms.
+/// Which characters of a value can't be written as themselves, by the quotes of the value.
 #[derive(Clone, Copy, Debug, PartialEq, Eq, Hash)]
 pub struct Needs {
-    /// `"`, which can't stand in double quotes.
+    /// `"`, which can't be in double quotes.
     pub double: Need,
-    /// `'`, which can't stand in single quotes.
+    /// `'`, which can't be in single quotes.
     pub single: Need,
     /// What needs quotes of either kind: whitespace, `<`, `=`, `>` and the grave accent.
     pub other: Need,
 }
 
-/// A unit. Names and bytes without a choice count by their length in bytes alone.
+/// A unit. Of names and bytes without a choice it holds only the length in bytes.
 #[derive(Clone, Copy, Debug, PartialEq, Eq, Hash)]
 pub enum Unit {
     /// Bytes without a choice.
     Fixed {
         len: u32,
     },
-    /// A start tag without attributes: whether it may be left out, but not after a loose end, and whether it may close
-    /// itself.
+    /// A start tag without attributes. `omits`: it may be omitted; `firm`: but not directly after an omitted end tag of
+    /// a table's section or of `colgroup`; `closes`: it may close itself.
     StartTag {
         len: u32,
         omits: bool,
@@ -54,13 +55,14 @@ pub enum Unit {
     BareAttribute {
         len: u32,
     },
-    /// The name of an attribute whose value isn't empty, its `=` and what opens the value, by what the value needs.
+    /// The name of an attribute whose value isn't empty, its `=` and what opens the value. `needs` is what the value
+    /// needs.
     AttributeName {
         len: u32,
         needs: Needs,
     },
-    /// A character. `pair` is the next one in the same text where some name stands for the two, else None. `more` says
-    /// whether there is a next one.
+    /// A character. `pair` is the next one in the same text if some name gives the two, else None. `more` says whether
+    /// there is a next one.
     Character {
         kind: TextKind,
         c: char,
@@ -69,11 +71,12 @@ pub enum Unit {
     },
     /// What closes a value.
     AttributeEnd,
-    /// `>`, and whether the tag may close itself.
+    /// `>`. `closes` says whether the tag may close itself.
     TagClose {
         closes: bool,
     },
-    /// An end tag: whether it may be left out, and whether that leaves the end loose.
+    /// An end tag. `omits`: it may be omitted; `loosens`: `tbody` and `colgroup` can't be omitted directly after it
+    /// then.
     EndTag {
         len: u32,
         omits: bool,

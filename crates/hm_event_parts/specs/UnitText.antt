@@ -1,4 +1,4 @@
--- What a unit has of its own, as bytes.
+-- A unit's own text, in bytes.
 use Rattle.std.specs.Prelude.{ℕ, List, encode_utf8}
 use Rattle.hm_event_parts.specs.Parts.{comment_bytes}
 use Rattle.hm_event_parts.specs.declared.pieces.UnitText.{UnitText}

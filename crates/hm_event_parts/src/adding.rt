@@ -1,4 +1,4 @@
-//! Parts put into a buffer.
+//! Adds parts to a buffer.
 ghost use Rattle.hm_event_parts.specs.Adding.{AddsParts};
 ghost use Rattle.hm_event_parts.specs.Parts.{IsPart, part_units};
 

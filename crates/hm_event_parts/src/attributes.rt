@@ -13,7 +13,7 @@ use hm_base::OutOfMemory;
 use hm_edges::{TextKind, Unit};
 use hm_tree::AttrsView;
 
-/// Adds an attribute.
+/// Adds the parts of an attribute.
 fn add_attribute<'t>(
     into: &mut Vec<Part<'t>>,
     name: &'t str,
@@ -48,7 +48,7 @@ fn add_attribute<'t>(
     )
 }
 
-/// Adds the attributes in their order.
+/// Adds the parts of all attributes, in their order.
 fn add_attributes<'t>(into: &mut Vec<Part<'t>>, attrs: AttrsView<'t>) -> Result<(), OutOfMemory>
     requires { attributes_size (attributes_shown attrs) < 2 ^ 32 }
     ensures { AddsParts result into.old.items into.new.items (attribute_units (attributes_shown attrs.entry)) }
@@ -60,7 +60,7 @@ fn add_attributes<'t>(into: &mut Vec<Part<'t>>, attrs: AttrsView<'t>) -> Result<
     Ok(())
 }
 
-/// Adds a start tag with attributes.
+/// Adds the parts of a start tag with attributes.
 pub(crate) fn add_tag<'t>(
     into: &mut Vec<Part<'t>>,
     name: &'t str,

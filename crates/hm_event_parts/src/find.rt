@@ -12,7 +12,7 @@ use crate::parts::Part;
 use hm_base::{OutOfMemory, SpellRules};
 use hm_tree::Tree;
 
-/// Adds the parts of what is found of an event.
+/// Adds the parts of what an event has.
 fn add_found<'t>(into: &mut Vec<Part<'t>>, found: Found<'t>) -> Result<(), OutOfMemory>
     requires { IsFound found }
     ensures { AddsParts result into.old.items into.new.items (found_units found.entry) }
@@ -32,7 +32,7 @@ fn add_found<'t>(into: &mut Vec<Part<'t>>, found: Found<'t>) -> Result<(), OutOf
     }
 }
 
-/// Gives the parts of event `i` of a tree, in their order and in place of what the buffer held.
+/// Finds the parts of event `i` of a tree, in their order. They replace what the buffer held.
 pub fn find_parts<'t>(
     tree: &'t Tree,
     rules: SpellRules,

@@ -1,4 +1,4 @@
-//! What is found of an event, before its parts are made.
+//! What an event has, before its parts are made.
 ghost use Rattle.std.specs.Prelude.{◌≡◌, ◌<◌, ◌+◌, ◌^◌, [], ◌∷◌, length, take, drop, not, ◌&&◌};
 ghost use Rattle.hm_base.specs.Walks.{attributes_size, path_after};
 ghost use Rattle.hm_elements.specs.Paths.{outer};
@@ -42,7 +42,7 @@ pub enum Found<'t> {
     },
 }
 
-/// How many bytes the text has.
+/// The length of the text in bytes.
 #[inline(always)]
 pub(crate) fn len_of(text: &str) -> u32
     requires { length text.now < 2 ^ 32 }
@@ -63,7 +63,7 @@ fn doctype_text(legacy: bool) -> &'static str
     }
 }
 
-/// Bytes without a choice.
+/// The part of bytes without a choice.
 #[inline(always)]
 pub(crate) fn fixed_part(bytes: &str) -> Part<'_>
     requires { length bytes.now < 2 ^ 32 }
@@ -76,8 +76,8 @@ pub(crate) fn fixed_part(bytes: &str) -> Part<'_>
     }
 }
 
-/// What a text has, which is event `i`: a raw one its bytes, and any other one a line feed, where one is due, and its
-/// characters.
+/// What text event `i` has: of a raw text its bytes, of any other one its characters, after one more line feed if
+/// one is needed.
 #[inline(always)]
 fn text_found<'t>(tree: &Tree, i: u32, text: &'t str, raw: bool) -> Found<'t>
     requires inside { i < length tree.now }
@@ -101,7 +101,7 @@ fn text_found<'t>(tree: &Tree, i: u32, text: &'t str, raw: bool) -> Found<'t>
     }
 }
 
-/// What the start of an element has, which is event `i`.
+/// What start event `i` has.
 #[inline(always)]
 fn start_found<'t>(
     tree: &Tree,
@@ -135,21 +135,21 @@ fn start_found<'t>(
     }
 }
 
-/// Whether the HTML element is a void one.
+/// Whether the HTML element is a void one, which has no end tag.
 fn is_void_element(name: &str) -> bool
     ensures { result ≡ tables.is_void name.now }
 {
     may_be_void(name) && is_void(name)
 }
 
-/// Whether the element is a void one.
+/// Whether the element is an HTML element without end tag.
 fn has_no_end_tag(name: &str, foreign: bool) -> bool
     ensures { result ≡ not foreign && tables.is_void name.now }
 {
     !foreign && is_void_element(name)
 }
 
-/// What the end of an element has, which is event `i`. A void element has no end tag.
+/// What end event `i` has. A void element has no end tag.
 #[inline(always)]
 fn end_found<'t>(tree: &Tree, rules: SpellRules, i: u32, name: &'t str, foreign: bool) -> Found<'t>
     requires inside { i < length tree.now }

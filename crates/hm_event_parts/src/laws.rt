@@ -8,7 +8,7 @@ pub fn units_go_by_events()
     ensures all { AllUnitsAreLeft }
 {}
 
-/// A unit stands for that unit of a tree which has its bytes, and those are then its own bytes.
+/// A unit in code is that unit of a tree which has its bytes, and those are then its own bytes.
 pub fn units_have_own_bytes()
     ensures stands { UnitsStandFor }
     ensures own { OwnBytesAreKept }

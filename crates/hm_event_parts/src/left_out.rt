@@ -1,4 +1,4 @@
-//! Which tags may be left out, by what stands around them (HTML Standard, #optional-tags).
+//! Which tags may be omitted, by what is before and after them (HTML Standard, #optional-tags).
 ghost use Rattle.std.specs.Prelude.{◌≡◌, ◌<◌, ◌+◌, ◌&&◌, ◌||◌, List, [], not, bytes_eq, length, take, drop};
 ghost use Rattle.hm_base.specs.Bytes as bytes;
 ghost use Rattle.hm_base.specs.Bytes.{head_is};
@@ -20,24 +20,28 @@ use hm_elements::{
 };
 use hm_tree::{EventView, Tree};
 
+/// Whether there is an event and it is a comment.
 fn is_comment(next: Option<EventView<'_>>) -> bool
     ensures { result ≡ walks.begins_comment (shown next.entry) }
 {
     matches!(next, Some(EventView::Comment { .. }))
 }
 
+/// Whether there is an event and it is a text.
 fn is_text(next: Option<EventView<'_>>) -> bool
     ensures { result ≡ walks.begins_text (shown next.entry) }
 {
     matches!(next, Some(EventView::Text { .. }))
 }
 
+/// Whether there is an event and it is a start.
 fn is_start(next: Option<EventView<'_>>) -> bool
     ensures { result ≡ walks.begins_start (shown next.entry) }
 {
     matches!(next, Some(EventView::Start { .. }))
 }
 
+/// Whether there is an event and it is an end.
 fn is_end(next: Option<EventView<'_>>) -> bool
     ensures { result ≡ walks.begins_end (shown next.entry) }
 {
@@ -54,6 +58,7 @@ fn is_end_of_head(next: Option<EventView<'_>>) -> bool
     }
 }
 
+/// Whether the text's first byte is whitespace.
 fn begins_with_space(text: &[u8]) -> bool
     ensures { result ≡ head_is bytes.is_space text.now }
 {
@@ -63,7 +68,7 @@ fn begins_with_space(text: &[u8]) -> bool
     }
 }
 
-/// Whether the event is a text that begins with whitespace.
+/// Whether the event is a text that starts with whitespace.
 fn is_space_first(next: Option<EventView<'_>>) -> bool
     ensures { result ≡ spellings.begins_space (shown next.entry) }
 {
@@ -73,7 +78,8 @@ fn is_space_first(next: Option<EventView<'_>>) -> bool
     }
 }
 
-/// Whether the event is the start of an element that is taken into `head` where no start tag of `body` stands before it.
+/// Whether the event is the start of an element that the parser takes into `head` if no start tag of `body` is before
+/// it.
 #[tactic(auto, unfolding(hm_spelling_spec::specs::Omission::head_takes))]
 fn is_for_head(next: Option<EventView<'_>>) -> bool
     ensures { result ≡ spellings.begins_for_head (shown next.entry) }
@@ -84,7 +90,7 @@ fn is_for_head(next: Option<EventView<'_>>) -> bool
     }
 }
 
-/// Whether the event is the start of a child before which the start tag of this element may be left out.
+/// Whether the event is the start of a child before which the start tag of this element may be omitted.
 fn is_child_of(parent: &str, next: Option<EventView<'_>>) -> bool
     ensures { result ≡ spellings.begins_child_of parent.now (shown next.entry) }
 {
@@ -95,7 +101,8 @@ fn is_child_of(parent: &str, next: Option<EventView<'_>>) -> bool
     }
 }
 
-/// Whether the start tag of the HTML element without attributes may be left out before the next event.
+/// Whether the start tag of the HTML element without attributes may be omitted before the next event. `frame` says
+/// whether those of `html`, `head` and `body` may.
 #[tactic(auto, unfolding(hm_spelling_spec::specs::Omission::start_falls))]
 fn start_falls(frame: bool, name: &str, next: Option<EventView<'_>>) -> bool
     ensures { result ≡ spellings.start_falls frame name.now (shown next.entry) }
@@ -111,8 +118,8 @@ fn start_falls(frame: bool, name: &str, next: Option<EventView<'_>>) -> bool
     }
 }
 
-/// Whether the end tag may be left out, by the tables of names: before the start of an HTML element, or at the end of
-/// the parent.
+/// Whether the tables of names let the end tag be omitted: before the start of an HTML element, or at the end of the
+/// parent.
 fn end_goes(name: &str, parent: &str, next: Option<EventView<'_>>) -> bool
     ensures { result ≡ spellings.end_goes name.now parent.now (shown next.entry) }
 {
@@ -129,7 +136,7 @@ fn end_goes(name: &str, parent: &str, next: Option<EventView<'_>>) -> bool
     }
 }
 
-/// Whether the end tag of the HTML element in this parent may be left out before the next event.
+/// Whether the end tag of the HTML element in this parent may be omitted before the next event.
 #[tactic(auto, unfolding(hm_spelling_spec::specs::Omission::end_falls))]
 fn end_falls(name: &str, parent: &str, next: Option<EventView<'_>>) -> bool
     ensures { result ≡ spellings.end_falls name.now parent.now (shown next.entry) }
@@ -143,7 +150,7 @@ fn end_falls(name: &str, parent: &str, next: Option<EventView<'_>>) -> bool
     }
 }
 
-/// Whether the start tag isn't left out where this is directly before it, an end whose tag was left out.
+/// Whether the start tag of this name is kept if the end tag of the previous event is omitted.
 fn is_barred(previous: Option<EventView<'_>>, name: &str) -> bool
     ensures { result ≡ units.is_firm (previous_shown previous.entry) name.now }
 {
@@ -158,7 +165,7 @@ fn is_barred(previous: Option<EventView<'_>>, name: &str) -> bool
     }
 }
 
-/// Whether the start tag of this name, which is event `i`, isn't left out where the tag of the end directly before it was.
+/// Whether the start tag of event `i`, which has this name, is kept if the end tag directly before it is omitted.
 pub(crate) fn is_firm(tree: &Tree, i: u32, name: &str) -> bool
     requires { i < length tree.now }
     ensures { result ≡ units.is_firm (previous_at tree.now i) name.now }
@@ -166,7 +173,7 @@ pub(crate) fn is_firm(tree: &Tree, i: u32, name: &str) -> bool
     may_be_page_part(name) && is_barred(previous_event(tree, i), name)
 }
 
-/// Whether the start tag of the HTML element without attributes, which is event `i`, may be left out there.
+/// Whether the start tag of event `i`, that of an HTML element without attributes, may be omitted.
 fn start_falls_at(tree: &Tree, i: u32, frame: bool, name: &str) -> bool
     requires { i < length tree.now }
     ensures { result ≡ spellings.start_falls frame name.now (take 1 (drop (i + 1) tree.now)) }
@@ -174,15 +181,15 @@ fn start_falls_at(tree: &Tree, i: u32, frame: bool, name: &str) -> bool
     may_be_page_part(name) && start_falls(frame, name, next_event(tree, i))
 }
 
-/// Whether a rule for the end tag of the HTML element asks for its parent.
+/// Whether a rule for the end tag of the HTML element depends on its parent.
 fn asks_for_parent(name: &str) -> bool
     ensures { result ≡ bytes_eq name.now p || bytes_eq name.now option }
 {
     same_name(name, "p") || same_name(name, "option")
 }
 
-/// The name of the parent of the element whose end is event `i`, where a rule for its end tag asks for the parent; any name
-/// else.
+/// The name of the parent of the element that ends with event `i`, if a rule for its end tag depends on the parent;
+/// else any name.
 fn asked_parent<'t>(tree: &'t Tree, i: u32, name: &str) -> &'t str
     requires { i < length tree.now }
     ensures { (w : List Event) → spellings.end_falls name.now result.now w ≡ spellings.end_falls name.now (current (outer (path_after [] (take i tree.now)))) w }
@@ -194,7 +201,7 @@ fn asked_parent<'t>(tree: &'t Tree, i: u32, name: &str) -> &'t str
     }
 }
 
-/// Whether the end tag of the HTML element, which is event `i`, may be left out there.
+/// Whether the end tag of event `i`, that of an HTML element, may be omitted.
 fn end_falls_at(tree: &Tree, i: u32, name: &str) -> bool
     requires { i < length tree.now }
     ensures { result ≡ spellings.end_falls name.now (current (outer (path_after [] (take i tree.now)))) (take 1 (drop (i + 1) tree.now)) }
@@ -202,7 +209,7 @@ fn end_falls_at(tree: &Tree, i: u32, name: &str) -> bool
     may_have_optional_end(name) && end_falls(name, asked_parent(tree, i, name), next_event(tree, i))
 }
 
-/// Whether the start tag of an element without attributes, which is event `i`, may be left out (#optional-tags).
+/// Whether the start tag of event `i`, that of an element without attributes, may be omitted (#optional-tags).
 pub(crate) fn may_omit_start(
     tree: &Tree,
     rules: SpellRules,
@@ -216,7 +223,7 @@ pub(crate) fn may_omit_start(
     rules.omit && !foreign && start_falls_at(tree, i, rules.frame, name)
 }
 
-/// Whether the end tag of an element, which is event `i`, may be left out (#optional-tags).
+/// Whether the end tag of event `i` may be omitted (#optional-tags).
 pub(crate) fn may_omit_end(
     tree: &Tree,
     rules: SpellRules,
@@ -230,7 +237,7 @@ pub(crate) fn may_omit_end(
     rules.omit && !foreign && end_falls_at(tree, i, name)
 }
 
-/// Whether the element whose start is event `i` may close itself: one of SVG that ends at once.
+/// Whether the start tag of event `i` may close itself: its element is one of SVG and has no content.
 pub(crate) fn may_close_itself(tree: &Tree, i: u32, foreign: bool) -> bool
     requires { i < length tree.now }
     ensures { result ≡ units.may_close_itself foreign (take 1 (drop (i + 1) tree.now)) }

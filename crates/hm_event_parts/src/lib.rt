@@ -1,5 +1,5 @@
-//! One event of a tree as the writer takes it: its units with their own bytes and runs of characters, which tags may be left out,
-//! and the bytes that the pieces of edges write.
+//! One event of a tree for the writer: its units with their own bytes and runs of characters, which tags may be
+//! omitted, and the bytes that the pieces of edges write.
 #![tactic(auto)]
 
 mod adding;

@@ -1,9 +1,9 @@
-//! Names by their length and first byte. They set most names in pages apart from those that a rule of tags names,
-//! without a search through a list.
+//! Names by their length and first byte. So most names of pages are told apart from those in
+//! the rules of tags without a search through a list.
 ghost use Rattle.std.specs.Prelude.{◌≡◌};
 ghost use Rattle.hm_event_parts.specs.Likely as likely;
 
-/// Whether the name is like those of void elements.
+/// Whether a void element has a name with this length and first byte.
 pub(crate) fn may_be_void(name: &str) -> bool
     ensures { result ≡ likely.like_void name.now }
 {
@@ -17,7 +17,7 @@ pub(crate) fn may_be_void(name: &str) -> bool
     }
 }
 
-/// Whether the name is like those of `html`, `head` and `body`, of `colgroup`, and of the sections of a table.
+/// Whether `html`, `head`, `body`, `colgroup` or a section of a table has a name with this length and first byte.
 pub(crate) fn may_be_page_part(name: &str) -> bool
     ensures { result ≡ likely.like_part name.now }
 {
@@ -29,7 +29,7 @@ pub(crate) fn may_be_page_part(name: &str) -> bool
     }
 }
 
-/// Whether the name is like those of elements whose end tag may be left out.
+/// Whether an element whose end tag may be omitted has a name with this length and first byte.
 pub(crate) fn may_have_optional_end(name: &str) -> bool
     ensures { result ≡ likely.like_ended name.now }
 {

@@ -1,4 +1,4 @@
-//! What stands around an event of a tree.
+//! What is around an event of a tree.
 ghost use Rattle.std.specs.Prelude.{◌≡◌, ◌<◌, ◌+◌, [], length, take, drop};
 ghost use Rattle.hm_base.specs.Walks.{path_after};
 ghost use Rattle.hm_elements.specs.Paths.{current, outer};

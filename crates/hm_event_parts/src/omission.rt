@@ -1,11 +1,12 @@
-//! Which ends are loose where their tags are left out.
+//! After which omitted end tags some start tags are kept.
 ghost use Rattle.std.specs.Prelude.{◌≡◌};
 ghost use Rattle.hm_graph_laws.specs.Units as units;
 
 use crate::likely::may_be_page_part;
 use hm_elements::{is_section, same_name};
 
-/// Whether an end of this name is loose where its tag is left out: that of a section of a table or of `colgroup`.
+/// Whether `tbody` and `colgroup` keep their start tags directly after the omitted end tag of this name: that of a
+/// section of a table or of `colgroup`.
 pub(crate) fn is_loose_end(name: &str) -> bool
     ensures { result ≡ units.is_loose_end name.now }
 {

@@ -4,12 +4,12 @@ use hm_edges::{TextKind, Unit};
 /// A part of an event: one unit, or the characters of a text or value.
 #[derive(Clone, Copy, Debug)]
 pub enum Part<'t> {
-    /// A unit that is no character and opens no value, with its own bytes: its name, or its bytes without a choice.
+    /// A unit that is no character and opens no value. `own` is its name, or its bytes without a choice.
     One { unit: Unit, own: &'t str },
-    /// The name of an attribute, its `=` and what opens its value, which isn't empty.
+    /// The name of an attribute, its `=` and what opens its value. The value isn't empty.
     Opening { name: &'t str, value: &'t str },
-    /// A comment, without the marks around it.
+    /// A comment. `text` is without `<!--` and `-->`.
     Comment { text: &'t str },
-    /// A unit for each character.
+    /// Characters, each of them a unit.
     Chars { kind: TextKind, text: &'t str },
 }

@@ -10,8 +10,8 @@ use hm_edges::{Piece, Quoting};
 use hm_refs::Table;
 use itoa::Buffer;
 
-/// What a unit has of its own: its name or its bytes without a choice, the text of a comment without the marks around it,
-/// or a character.
+/// The text that is a unit's own: its name or its bytes without a choice, the text of a comment without `<!--` and
+/// `-->`, or a character.
 #[derive(Clone, Copy, Debug)]
 pub enum UnitText<'t> {
     Bytes { text: &'t str },
@@ -19,7 +19,7 @@ pub enum UnitText<'t> {
     Character { c: char },
 }
 
-/// Appends the bytes that a piece writes for a unit. Where memory is refused, a part may have been appended.
+/// Appends the bytes that a piece writes for a unit. After an error some of them may have been appended.
 #[inline(always)]
 pub fn put_piece(
     out: &mut Vec<u8>,
@@ -36,7 +36,7 @@ pub fn put_piece(
     }
 }
 
-/// Appends the bytes that a piece writes for a unit, whichever it is.
+/// As `put_piece`, without its fast path for the unit's own bytes.
 fn put_other(
     out: &mut Vec<u8>,
     table: &Table,
@@ -70,14 +70,14 @@ fn put(out: &mut Vec<u8>, bytes: &[u8]) -> Result<(), OutOfMemory>
     Ok(())
 }
 
-/// Appends these bytes, where they are wanted.
+/// Appends these bytes if `wanted`.
 fn put_where(out: &mut Vec<u8>, wanted: bool, bytes: &[u8]) -> Result<(), OutOfMemory>
     ensures { OnOk result (out.new.items ≡ out.old.items ++ (if wanted then bytes.now else [])) }
 {
     if wanted { put(out, bytes) } else { Ok(()) }
 }
 
-/// Appends what a unit has of its own.
+/// Appends the unit's own text.
 #[inline(always)]
 fn put_own(out: &mut Vec<u8>, own: UnitText) -> Result<(), OutOfMemory>
     ensures { OnOk result (out.new.items ≡ out.old.items ++ own_text own.entry) }
@@ -89,6 +89,7 @@ fn put_own(out: &mut Vec<u8>, own: UnitText) -> Result<(), OutOfMemory>
     }
 }
 
+/// Appends a comment with its `<!--` and `-->`.
 fn put_comment(out: &mut Vec<u8>, text: &str) -> Result<(), OutOfMemory>
     ensures { OnOk result (out.new.items ≡ out.old.items ++ comment_bytes text.now) }
 {
@@ -97,6 +98,7 @@ fn put_comment(out: &mut Vec<u8>, text: &str) -> Result<(), OutOfMemory>
     put(out, b"-->")
 }
 
+/// Appends a character in UTF-8.
 #[inline(always)]
 fn put_character(out: &mut Vec<u8>, c: char) -> Result<(), OutOfMemory>
     ensures { OnOk result (out.new.items ≡ out.old.items ++ encode_utf8 c) }
@@ -109,6 +111,7 @@ fn put_character(out: &mut Vec<u8>, c: char) -> Result<(), OutOfMemory>
     put(out, c.encode_utf8(&mut buffer).as_bytes())
 }
 
+/// Appends `>`, or `/>` if the tag closes itself.
 fn put_close(out: &mut Vec<u8>, closes: bool) -> Result<(), OutOfMemory>
     ensures { OnOk result (out.new.items ≡ out.old.items ++ (if closes then codes "/>" else codes ">")) }
 {
@@ -119,6 +122,7 @@ fn put_close(out: &mut Vec<u8>, closes: bool) -> Result<(), OutOfMemory>
     }
 }
 
+/// Appends a start tag without attributes.
 fn put_start_tag(out: &mut Vec<u8>, own: UnitText, closes: bool) -> Result<(), OutOfMemory>
     ensures { OnOk result (out.new.items ≡ out.old.items ++ (codes "<" ++ (own_text own.entry ++ (if closes then codes "/>" else codes ">")))) }
 {
@@ -127,6 +131,7 @@ fn put_start_tag(out: &mut Vec<u8>, own: UnitText, closes: bool) -> Result<(), O
     put_close(out, closes)
 }
 
+/// Appends `<` and the name of a tag.
 fn put_tag_name(out: &mut Vec<u8>, own: UnitText) -> Result<(), OutOfMemory>
     ensures { OnOk result (out.new.items ≡ out.old.items ++ 60 ∷ own_text own.entry) }
 {
@@ -134,6 +139,7 @@ fn put_tag_name(out: &mut Vec<u8>, own: UnitText) -> Result<(), OutOfMemory>
     put_own(out, own)
 }
 
+/// Appends the name of an attribute, with a space before it if `gap`, its `=` and what opens its value.
 fn put_attribute(
     out: &mut Vec<u8>,
     own: UnitText,
@@ -152,6 +158,7 @@ fn put_attribute(
     }
 }
 
+/// Appends a quote.
 fn put_quote(out: &mut Vec<u8>, double: bool) -> Result<(), OutOfMemory>
     ensures { OnOk result (out.new.items ≡ out.old.items ++ (if double then 34 ∷ [] else 39 ∷ [])) }
 {
@@ -162,6 +169,7 @@ fn put_quote(out: &mut Vec<u8>, double: bool) -> Result<(), OutOfMemory>
     }
 }
 
+/// Appends `>` or `/>`, with a space before it if `space`.
 fn put_tag_close(out: &mut Vec<u8>, space: bool, closes: bool) -> Result<(), OutOfMemory>
     ensures { OnOk result (out.new.items ≡ out.old.items ++ with_gap space (if closes then codes "/>" else codes ">")) }
 {
@@ -169,6 +177,7 @@ fn put_tag_close(out: &mut Vec<u8>, space: bool, closes: bool) -> Result<(), Out
     put_close(out, closes)
 }
 
+/// Appends an end tag.
 fn put_end_tag(out: &mut Vec<u8>, own: UnitText) -> Result<(), OutOfMemory>
     ensures { OnOk result (out.new.items ≡ out.old.items ++ (codes "</" ++ (own_text own.entry ++ codes ">"))) }
 {
@@ -177,6 +186,7 @@ fn put_end_tag(out: &mut Vec<u8>, own: UnitText) -> Result<(), OutOfMemory>
     put(out, b">")
 }
 
+/// Appends a decimal reference, with a `;` if `closed`.
 fn put_decimal(out: &mut Vec<u8>, number: u32, closed: bool) -> Result<(), OutOfMemory>
     ensures { OnOk result (out.new.items ≡ out.old.items ++ (codes "&#" ++ closed_by closed (codes ";") (decimal number))) }
 {
@@ -186,6 +196,7 @@ fn put_decimal(out: &mut Vec<u8>, number: u32, closed: bool) -> Result<(), OutOf
     put_where(out, closed, b";")
 }
 
+/// Appends a hexadecimal reference, with a `;` if `closed`.
 fn put_hexadecimal(out: &mut Vec<u8>, number: u32, closed: bool) -> Result<(), OutOfMemory>
     ensures { OnOk result (out.new.items ≡ out.old.items ++ (codes "&#x" ++ closed_by closed (codes ";") (digits 16 false number))) }
 {
@@ -206,7 +217,7 @@ fn hexadecimal_digit(value: u8) -> u8
     }
 }
 
-/// Appends the hexadecimal digits of a number.
+/// Appends the hexadecimal digits of a number, in lower case.
 fn put_hexadecimal_digits(out: &mut Vec<u8>, number: u32) -> Result<(), OutOfMemory>
     ensures { OnOk result (out.new.items ≡ out.old.items ++ digits 16 false number) }
 {
@@ -217,6 +228,7 @@ fn put_hexadecimal_digits(out: &mut Vec<u8>, number: u32) -> Result<(), OutOfMem
     put(out, &[hexadecimal_digit((number % 16) as u8)])
 }
 
+/// Appends the unit's own text in a CDATA section, with what opens and closes the section if this character does.
 fn put_section(
     out: &mut Vec<u8>,
     own: UnitText,

@@ -13,7 +13,7 @@ use hm_edges::TextKind;
 use hm_elements::{is_preformatted, is_rcdata};
 use hm_tree::{EventView, Tree};
 
-/// In what kind of text the characters stand directly in this element.
+/// The kind of a text directly in this element.
 pub(crate) fn text_kind(around: Around<'_>) -> TextKind
     ensures { (path : List Element) → IsAround around.entry path → kind_of result ≡ units.kind_of path }
 {
@@ -26,19 +26,22 @@ pub(crate) fn text_kind(around: Around<'_>) -> TextKind
     }
 }
 
+/// Whether the text's first character is a line feed.
 fn begins_with_line_feed(text: &str) -> bool
     ensures { result ≡ head_is spellings.is_line_feed (chars text.now) }
 {
     matches!(text.chars().next(), Some('\n'))
 }
 
+/// Whether there is an event and it is a start.
 fn is_start(event: Option<EventView<'_>>) -> bool
     ensures { result ≡ units.is_after_start (previous_shown event.entry) }
 {
     matches!(event, Some(EventView::Start { .. }))
 }
 
-/// Whether a line feed that comes first in this element is not read (HTML Standard, #element-restrictions).
+/// Whether the parser drops a line feed directly after the start tag of this element (HTML Standard,
+/// #element-restrictions).
 #[tactic(auto, unfolding(hm_spelling_spec::specs::Spellings::drops_first_line_feed))]
 fn drops_first_line_feed(around: Around<'_>) -> bool
     ensures { (path : List Element) → IsAround around.entry path → result ≡ spellings.drops_first_line_feed path }
@@ -46,8 +49,8 @@ fn drops_first_line_feed(around: Around<'_>) -> bool
     !around.foreign && is_preformatted(around.name)
 }
 
-/// Whether one more line feed is due before the text, which is event `i`: it begins with one and comes first in such an
-/// element.
+/// Whether one more line feed is written before the text of event `i`: the text starts with one, and the parser would
+/// drop it here.
 #[tactic(auto, using(crate::proofs::TextUnits::due))]
 pub(crate) fn is_line_feed_due(tree: &Tree, i: u32, around: Around<'_>, text: &str) -> bool
     requires { i < length tree.now }

@@ -1,16 +1,16 @@
--- Trees of fragments: all of them stand in body, and no tag but those of the frame has to be written around it.
+-- Trees of fragments: all of their content is in body, and no tag but those of the frame has to be written around it.
 use Rattle.std.specs.Prelude.{◌≡◌, ℕ, false, List, [], ◌∷◌, ◌++◌, length, drop, codes}
 use Rattle.hm_base.specs.Walks.{Event, doctype, start, end}
 use Rattle.hm_elements.specs.Names.{html, head, body}
 
--- what stands before a fragment
+-- the text that makes a page of a fragment after it
 abbrev pub front : List ℕ
 front = codes "<!doctype html><body>"
 
 abbrev pub framed : List ℕ → List ℕ
 framed fragment = front ++ fragment
 
--- what stands after the front of a text that has it
+-- the rest of a text after its front
 abbrev pub unframed : List ℕ → List ℕ
 unframed page = drop (length front) page
 

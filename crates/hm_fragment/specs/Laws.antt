@@ -29,7 +29,7 @@ abbrev pub ClosedPagesTakeNoEndTag : Type 0
 ClosedPagesTakeNoEndTag = (t : List Entry) → IsTable t → (place : ℕ → ℕ) (s : List ℕ) (at p : ℕ) (v w : List Event) → IsPlain s
     → closed_from t place 0 at first_state s ≡ Some p → tree_from t place 0 at first_state s ≡ built v → tree_from t place 0 at first_state (s ++ body_end) ≡ built w → ⊥
 
--- The shortest text of a tree of a fragment, where the tags of the frame may be left out but for the start tag of body, begins with
+-- The shortest text of a tree of a fragment, if the tags of the frame may be omitted except for the start tag of body, starts with
 -- the front, and no token of it closes body.
 pub record StaysOpen (t : List Entry) (b : List ℕ) : Type 0 where
   pub fragment : List ℕ
@@ -40,7 +40,7 @@ abbrev pub FragmentsStayOpen : Type 0
 FragmentsStayOpen = (t : List Entry) → IsTable t → (r : SpellRules) → r.omit ≡ true → r.frame ≡ true → (w : List Event) → Settled w → IsFramed w
     → StaysOpen t (first_way (edges_of (sparing_plain t r)) (units_of r w) first_way_state)
 
--- A page that begins with the front and closes its body nowhere has the tree of a fragment.
+-- A page that starts with the front and doesn't close its body has the tree of a fragment.
 abbrev pub OpenPagesAreFramed : Type 0
 OpenPagesAreFramed = (t : List Entry) (fragment : List ℕ) (w : List Event) → page_tree t (framed fragment) ≡ built w → closed_at t (framed fragment) ≡ None → IsFramed w
 
@@ -60,7 +60,7 @@ pub record IsInBody (w : List Event) : Type 0 where
 abbrev pub FragmentsAreInBody : Type 0
 FragmentsAreInBody = (t : List Entry) → IsTable t → (fragment : List ℕ) (w : List Event) → fragment_tree t fragment ≡ built w → IsInBody w
 
--- The text begins with the front, and what stands after it is a fragment with this tree.
+-- The text starts with the front, and the rest is a fragment with this tree.
 pub record IsReadBack (t : List Entry) (w : List Event) (b : List ℕ) : Type 0 where
   pub framed_is : framed (unframed b) ≡ b
   pub reads : fragment_tree t (unframed b) ≡ built w
@@ -75,6 +75,6 @@ abbrev pub RewrittenIsReadBack : Type 0
 RewrittenIsReadBack = (t : List Entry) → IsTable t → (r : SpellRules) → r.omit ≡ true → r.frame ≡ true → (o : TreeOptions) (fragment : List ℕ) (w : List Event) → fragment_tree t fragment ≡ built w
     → IsReadBack t (rewrite o w) (first_way (edges_of (sparing_plain t r)) (units_of r (rewrite o w)) first_way_state)
 
--- Where no spelling of a tree has fewer bytes than a front and n more, no fragment that spells it in a front has fewer than n.
+-- If no spelling of a tree has fewer bytes than a front and n more, no fragment that spells it after a front has fewer than n.
 abbrev pub BoundsAreOfFragments : Type 0
 BoundsAreOfFragments = (t : List Entry) (r : SpellRules) (w : List Event) (n : ℕ) → Shortest t r w (length front + n) → (fragment : List ℕ) → Spells t r w (framed fragment) → n ≤ length fragment

@@ -1,4 +1,4 @@
-//! Fragments: the content of body alone.
+//! Fragments: the content of `body` without a page around it.
 #![tactic(auto)]
 
 pub mod laws;

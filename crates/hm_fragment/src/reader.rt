@@ -1,4 +1,4 @@
-//! Fragments that are read.
+//! Reads fragments.
 ghost use Rattle.std.specs.Io.{StartsWith};
 ghost use Rattle.std.specs.Prelude.{◌≡◌, ◌≤◌, length, IfOk, IfErr};
 ghost use Rattle.hm_elements.specs.Settled.{Settled};
@@ -15,17 +15,17 @@ use hm_refs::laws::every_table;
 use hm_tree::Tree;
 use std::alloc::Global;
 
-/// What stands before a fragment, so that the two are a page.
+/// The text that makes a page of a fragment after it.
 const FRAGMENT_PREFIX: &str = "<!doctype html><body>";
 
-/// The bytes of `<!doctype html><body>`, which stand before a fragment where it is read.
+/// The bytes of `<!doctype html><body>`, which a fragment is read after.
 pub fn front() -> &'static [u8]
     ensures { result.now ≡ frames.front }
 {
     FRAGMENT_PREFIX.as_bytes()
 }
 
-/// The refusal of a fragment whose page is refused so. Places of the page are after the front.
+/// The refusal of a fragment whose page has this refusal. Its place is in bytes of the fragment, without `front()`.
 fn refusal(refused: Refused) -> Refused
     ensures { result ≡ refusal_of refused }
 {
@@ -38,11 +38,11 @@ fn refusal(refused: Refused) -> Refused
     }
 }
 
-/// The tree of a fragment (#parsing-html-fragments), the content of body alone, from a page that is `front` and then the
-/// fragment: or its first refusal, with its rule and its byte of the fragment.
+/// Reads the tree of a fragment (#parsing-html-fragments), the content of `body` alone. `page` is `front()` and then
+/// the fragment. Or gives the fragment's first refusal, with its rule and its byte of the fragment.
 ///
-/// It is refused where the page is (#tree-construction), and else, by `FrameEnd`, at the first token that closes body
-/// (#parsing-main-inbody, `</body>` and `</html>`). The page's memory is freed. The time is linear in the page.
+/// It is refused if the page is (#tree-construction), and else, by `FrameEnd`, at the first token that closes body
+/// (#parsing-main-inbody, `</body>` and `</html>`). The page's memory is freed. Takes time linear in the page.
 pub fn read_fragment(alloc: Global, page: Vec<u8>, table: &Table) -> Result<Tree, Refused>
     requires front { StartsWith page.items frames.front }
     requires short { length page.items ≤ OUTPUT_LIMIT }

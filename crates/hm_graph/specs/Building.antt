@@ -49,12 +49,12 @@ abbrev pub more_numbers : Option (List ℕ) → ℕ → ℕ → Option (List ℕ
 more_numbers None count number = None
 more_numbers (Some numbers) count number = Some (numbers ++ replicate count number)
 
--- where numbers are recorded, so many more are few
+-- if numbers are recorded, there is room for `count` more
 abbrev pub IsFew : Option (List ℕ) → ℕ → Type 0
 IsFew None count = Prim.Unit {0}
 IsFew (Some numbers) count = length numbers + count < 2 ^ 29
 
--- numbers that are recorded are those of so many steps
+-- if numbers are recorded, they are those of `len` steps
 abbrev pub AreThere : InternedView → Option (List ℕ) → ℕ → Type 0
 AreThere m None len = Prim.Unit {0}
 AreThere m (Some numbers) len = All (λ n. n < length m.steps) numbers × (length numbers ≡ len)

@@ -11,11 +11,11 @@ use Rattle.hm_graph_laws.specs.Forms.{added, covers, gains, saved}
 use Rattle.hm_optimality_laws.specs.Dominated.{form_dominates, is_form}
 use Rattle.hm_refs.specs.Names.{Entry}
 
--- whether the form `to` serves in place of the other one, `from`
+-- whether the quotes `to` can replace the quotes `from`
 abbrev pub takes_place : List ℕ → Where → Where → Bool
 takes_place v from to = is_form to && (is_form from && (not (same_where to from) && covers to from v))
 
--- it does exactly where there is a change, which has what is added at most and spared at least
+-- they can exactly if there is a change, which has how many bytes are added at most and saved at least
 abbrev pub IsFormChange : List Entry → List ℕ → Where → Where → Option Change → Type 0
 IsFormChange t v from to None = takes_place v from to ≡ false
 IsFormChange t v from to (Some x) = (takes_place v from to ≡ true) × ((x.added ≡ added from) × (x.saved ≡ saved (gains t to from v)))

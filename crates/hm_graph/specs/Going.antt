@@ -22,8 +22,8 @@ pub record Goes {V : Type 0} (C : V → List Entry → List Unit → List Step �
 abbrev pub GoesOver : {V : Type 0} → (V → List Entry → List Unit → List Step → V → Type 0) → TextKind → List ℕ → List ℕ → Along V → Along V → Type 0
 GoesOver C kind cs left old new = Goes C (character_units kind cs) (character_units kind left) old new
 
--- A walk over all steps of a tree: there are so many, the last layer has so many states, and the visitor that ends as `by` began as
--- `start`.
+-- A walk over all steps of a tree: `walked` has the number of steps and of the states of the last layer, and the visitor that ends
+-- as `by` started as `start`.
 pub record IsWalk {V : Type 0} (C : V → List Entry → List Unit → List Step → V → Type 0) (source : GraphSource) (start : V) (walked : Walked) (by : V) : Type 0 where
   pub steps : List Step
   pub graph : IsGraph (record { source = source; steps = steps; runs = []; last = walked.last })

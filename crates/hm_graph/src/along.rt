@@ -1,4 +1,4 @@
-//! The steps of a tree's parts. A visitor is called for each as it is added.
+//! The steps of a tree's parts. A visitor is called for each step as it is added.
 ghost use Rattle.std.specs.Prelude.{◌≡◌, ◌<◌, ◌≤◌, ◌+◌, ◌^◌, ◌∷◌, ◌++◌, [], codes, length, IfOk, OnOk};
 ghost use Rattle.hm_base.specs.Walks.{attributes_size};
 ghost use Rattle.std.specs.Str.{IsUtf8, chars};
@@ -26,7 +26,7 @@ pub(crate) struct Along<'t, V> {
     pub(crate) by: V,
 }
 
-/// Adds the step of a unit with these bytes of its own.
+/// Adds the step of a unit that has these bytes of its own.
 #[inline(always)]
 fn add<V: Visitor>(along: &mut Along<'_, V>, unit: &Unit, own: UnitText) -> Result<(), V::Stop>
     ensures { OnOk result ((u : units.Unit) → StandsFor along.old.graph.table.entries unit.now u → own_bytes u ≡ own_text own.entry → Goes V.goes_on (u ∷ []) [] along.old along.new) }
@@ -38,7 +38,7 @@ fn add<V: Visitor>(along: &mut Along<'_, V>, unit: &Unit, own: UnitText) -> Resu
     Ok(())
 }
 
-/// Adds the step of a unit that is no character and opens no value, with its own bytes.
+/// Adds the step of a unit that is no character and opens no value. `own` is its own text.
 #[inline(always)]
 fn add_one<V: Visitor>(along: &mut Along<'_, V>, unit: &Unit, own: &str) -> Result<(), V::Stop>
     requires { HasOwn unit.now own.now }
@@ -47,7 +47,7 @@ fn add_one<V: Visitor>(along: &mut Along<'_, V>, unit: &Unit, own: &str) -> Resu
     add(along, unit, UnitText::Bytes { text: own })
 }
 
-/// Adds the step of the first character of a text, where there is one, and gives the rest of the text.
+/// Adds the step of the first character of a text, if there is one, and gives the rest of the text.
 #[inline(always)]
 fn add_first<'s, V: Visitor>(
     along: &mut Along<'_, V>,
@@ -72,7 +72,7 @@ fn add_first<'s, V: Visitor>(
     Ok(rest)
 }
 
-/// Adds the steps of characters that a text begins with, as far as they are known to lead to one place, and gives the rest
+/// Adds the steps of the first characters of a text, as far as they are known to lead to one place, and gives the rest
 /// of the text.
 #[inline(always)]
 fn add_alike<'s, V: Visitor>(
@@ -95,7 +95,7 @@ fn add_alike<'s, V: Visitor>(
     Ok(&text[count..])
 }
 
-/// Adds the steps of some characters that a text begins with, of one at least, and gives the rest of the text.
+/// Adds the steps of the first characters of a text, at least one, and gives the rest of the text.
 #[inline(always)]
 fn add_some<'s, V: Visitor>(
     along: &mut Along<'_, V>,
@@ -223,7 +223,7 @@ fn add_line<V: Visitor>(along: &mut Along<'_, V>, kind: TextKind, text: &str) ->
     add_characters(along, kind, text)
 }
 
-/// Adds the steps of what is found of an event.
+/// Adds the steps of what an event has.
 #[inline(always)]
 pub(crate) fn add_found<V: Visitor>(
     along: &mut Along<'_, V>,

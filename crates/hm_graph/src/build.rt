@@ -30,9 +30,10 @@ fn add_tree<V: Visitor>(
     Ok(())
 }
 
-/// Calls a visitor for each step of a tree's graph in a format, and gives it back after the last one. The graph isn't kept.
+/// Calls a visitor for each step of a tree's graph in a format, and returns it after the last one. The graph isn't
+/// kept.
 ///
-/// Memory counts as refused where `Graph::of` counts it as refused.
+/// Fails with `OutOfMemory` if `Graph::of` does.
 pub fn walk<V: Visitor>(
     alloc: Global,
     tree: &Tree,
@@ -57,10 +58,10 @@ pub fn walk<V: Visitor>(
 }
 
 impl<'t> Graph<'t> {
-    /// The graph of a tree in a format, by the names of a table and these rules.
+    /// Makes the graph of a tree in a format, by the names of a table and these rules.
     ///
-    /// Memory counts as refused if the tree has 2^29 units or more, or if an edge writes 2^33 bytes or more. It does
-    /// too if there are 2^29 different steps or lists of states.
+    /// Fails with `OutOfMemory` too if the tree has 2^29 units or more, if an edge writes 2^33 bytes or more, or if
+    /// there are 2^29 different steps or lists of states.
     pub fn of(
         alloc: Global,
         tree: &'t Tree,
@@ -74,7 +75,8 @@ impl<'t> Graph<'t> {
         Ok(graph)
     }
 
-    /// As `of`. A visitor is called for each step as it is added, and is returned after the last one.
+    /// Makes the graph as `of` does. A visitor is called for each step as it is added, and is returned after the last
+    /// one.
     pub fn visited<V: Visitor>(
         alloc: Global,
         tree: &'t Tree,

@@ -1,4 +1,4 @@
-//! A graph while it is built.
+//! A graph that is being built.
 ghost use Rattle.std.specs.Prelude.{◌≡◌, ◌<◌, ◌≤◌, ◌^◌, ◌∷◌, [], None, Some, drop, length, take, IfOk, IsSome, OnErr, OnOk, if◌then◌else◌};
 ghost use Rattle.std.specs.Str.{IsAscii, chars};
 ghost use Rattle.std.proofs.Math.ListN.{replicate};
@@ -22,7 +22,8 @@ use hm_tree::Tree;
 use std::alloc::Global;
 use std::marker::Model;
 
-/// The numbers of the steps so far, where they are recorded, how many steps there are, and the number of the list after them.
+/// The numbers of the steps so far, if they are recorded, how many steps there are, and the number of the list after
+/// them.
 #[derive(Drop)]
 pub(crate) struct GraphBuilder<'t> {
     interned: Interned<'t>,
@@ -43,7 +44,7 @@ impl<'t> Model for GraphBuilder<'t> {
     ghost invariant = { λ b. IsBuilding b.interned b.numbers b.len b.last };
 }
 
-/// Keeps a number `count` times, where numbers are recorded.
+/// Appends a number `count` times, if numbers are recorded.
 #[inline(always)]
 fn keep_number(numbers: &mut Option<Numbers>, number: u32, count: u32) -> Result<(), OutOfMemory>
     requires { IsFew numbers.old count }
@@ -56,7 +57,7 @@ fn keep_number(numbers: &mut Option<Numbers>, number: u32, count: u32) -> Result
     }
 }
 
-/// No numbers, where they are recorded.
+/// An empty list of numbers, if they are recorded.
 fn no_numbers(alloc: Global, recorded: bool) -> Option<Numbers>
     ensures { result ≡ (if recorded then Some [] else None) }
 {
@@ -67,7 +68,7 @@ fn no_numbers(alloc: Global, recorded: bool) -> Option<Numbers>
     }
 }
 
-/// The runs of numbers that are recorded.
+/// The recorded numbers as runs.
 fn runs_of(numbers: Option<Numbers>) -> Result<Vec<Run>, OutOfMemory>
     requires { IsSome numbers }
     ensures runs { IfOk result (λ runs. AreRuns runs.items) }
@@ -77,7 +78,7 @@ fn runs_of(numbers: Option<Numbers>) -> Result<Vec<Run>, OutOfMemory>
 }
 
 impl<'t> GraphBuilder<'t> {
-    /// Nothing is built but the first layer. Steps are recorded where they are to be.
+    /// A graph with only its first layer. `recorded` says whether the numbers of steps are kept.
     pub(crate) fn new(
         alloc: Global,
         table: &'t Table,
@@ -105,14 +106,14 @@ impl<'t> GraphBuilder<'t> {
         self.interned.table()
     }
 
-    /// What a value needs.
+    /// Which characters of a value can't be written as themselves, by its quotes.
     pub(crate) fn needs_of(&self, value: &str) -> Needs
         ensures { result ≡ needs_of self.now.table.entries (chars value.now) }
     {
         self.interned.needs_of(value)
     }
 
-    /// The step of this number.
+    /// The step with this number.
     #[inline(always)]
     pub(crate) fn step(&self, number: u32) -> &Step
         requires { number < length self.now.made }
@@ -121,7 +122,7 @@ impl<'t> GraphBuilder<'t> {
         self.interned.made_step(number)
     }
 
-    /// Adds the step of a unit, and gives its number.
+    /// Adds the step of a unit and gives its number.
     #[inline(always)]
     pub(crate) fn add(&mut self, unit: &Unit) -> Result<u32, OutOfMemory>
         ensures adds { IfOk result (λ n. (u : units.Unit) → StandsFor self.old.table.entries unit.now u → AddsSteps self.old self.new (u ∷ []) (numbered_step self.new n ∷ [])) }
@@ -138,7 +139,7 @@ impl<'t> GraphBuilder<'t> {
         Ok(number)
     }
 
-    /// Adds the step of a character, after which the next one stands in the same text, and gives its number.
+    /// Adds the step of a character that `next` follows in the same text, and gives its number.
     #[inline(always)]
     fn add_in_front(&mut self, kind: TextKind, c: char, next: char) -> Result<u32, OutOfMemory>
         ensures adds { IfOk result (λ n. AddsSteps self.old self.new (units.character (kind_of kind) c (Some next) ∷ []) (numbered_step self.new n ∷ [])) }
@@ -154,7 +155,7 @@ impl<'t> GraphBuilder<'t> {
         Ok(to.number)
     }
 
-    /// Adds the step of the last character of a text, and gives its number.
+    /// Adds the step of the last character of a text and gives its number.
     #[inline(always)]
     fn add_last(&mut self, kind: TextKind, c: char) -> Result<u32, OutOfMemory>
         ensures adds { IfOk result (λ n. AddsSteps self.old self.new (units.character (kind_of kind) c None ∷ []) (numbered_step self.new n ∷ [])) }
@@ -170,7 +171,8 @@ impl<'t> GraphBuilder<'t> {
         Ok(to.number)
     }
 
-    /// Adds the step of a character by the one after it in the same text, where there is one, and gives its number.
+    /// Adds the step of a character and gives its number. `next` is the character after it in the same text, if there
+    /// is one.
     #[inline(always)]
     pub(crate) fn add_character(
         &mut self,
@@ -187,8 +189,8 @@ impl<'t> GraphBuilder<'t> {
         }
     }
 
-    /// Adds the steps of characters that a text begins with, as far as they are known to lead to one place. Gives how
-    /// many they are and where they lead. All are of ASCII and have the same step.
+    /// Adds the steps of the first characters of a text, as far as they are known to lead to one place. Gives how many
+    /// they are and where they lead. All are of ASCII and have the same step.
     #[inline(always)]
     pub(crate) fn add_alike(&mut self, kind: TextKind, text: &str) -> Result<Alike, OutOfMemory>
         ensures adds { IfOk result (λ alike. 0 < alike.count → AddsFront self.old self.new (kind_of kind) (chars text.now) (chars (drop alike.count text.now)) (replicate alike.count (numbered_step self.new alike.to.number))) }
@@ -211,7 +213,7 @@ impl<'t> GraphBuilder<'t> {
         Ok(alike)
     }
 
-    /// The end of a walk over the steps.
+    /// Gives what is known after the last step, without a graph.
     pub(crate) fn into_walked(self) -> Walked
         ensures len { result.len ≡ self.entry.len }
         ensures last { result.last ≡ length self.entry.last }
@@ -229,7 +231,7 @@ impl<'t> GraphBuilder<'t> {
         }
     }
 
-    /// The graph of the tree whose steps are recorded.
+    /// Gives the graph of the tree whose steps were recorded.
     pub(crate) fn into_graph(self, tree: &'t Tree) -> Result<Graph<'t>, OutOfMemory>
         requires { IsBuilt self (units_of self.rules.spell tree.now) }
         ensures source { IfOk result (λ graph. graph.source ≡ record { tree = tree.now; table = self.entry.table; rules = self.entry.rules.spell; format = self.entry.rules.format }) }

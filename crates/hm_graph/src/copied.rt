@@ -5,7 +5,7 @@ ghost use Rattle.hm_graph.specs.Copied.{Copies};
 use crate::{Hop, Step};
 use hm_edges::Piece;
 
-/// Whether there is one hop, which copies one byte and leads to this place.
+/// Whether there is exactly one hop, and it copies one byte and leads to this place.
 #[inline(always)]
 fn copies(hops: &[Hop], place: usize) -> bool
     ensures { IsTrue result → Copies place hops.now }
@@ -17,7 +17,7 @@ fn copies(hops: &[Hop], place: usize) -> bool
 }
 
 impl Step {
-    /// Whether the hop from a place is the only one there, copies one byte and leads to the same place.
+    /// Whether a place has only one hop, which copies one byte and leads to the same place.
     #[inline(always)]
     pub fn copies(&self, place: usize) -> bool
         ensures { IsTrue result → Copies place (slice_index_or self.now place []) }

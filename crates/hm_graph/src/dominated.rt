@@ -1,4 +1,4 @@
-//! The edges that no other one dominates (outdoes).
+//! The edges of a state that no other edge dominates.
 ghost use Rattle.std.specs.Prelude.{◌≡◌, ◌||◌, ◌++◌, ◌∷◌, ◌<◌, ◌^◌, [], nat_le, nat_lt, if◌then◌else◌, IfOk, IfSome, OnOk};
 ghost use Rattle.std.specs.List.{list_any};
 ghost use Rattle.hm_edges.specs.Pieces.{AreOfTable, IsOfTable, edge_of, edges_seen};
@@ -19,7 +19,7 @@ use hm_edges::{Edge, Pending, State, Unit, Where, piece_len};
 use hm_refs::Table;
 use std::alloc::Global;
 
-/// Whether what is pending in a state may be forgotten.
+/// Whether what is pending in a state may be ignored.
 fn may_forget(state: &State) -> bool
     ensures { (v : TableView) → result ≡ dominated.may_forget (state_of v state.now) }
 {
@@ -37,7 +37,7 @@ fn is_same(one: &State, other: &State) -> bool
     is_state(one, other)
 }
 
-/// Whether the first state serves as well as the other.
+/// Whether the first state can take the place of the other: whatever may follow the other may follow it.
 fn can_replace(one: &State, other: &State) -> bool
     ensures { (v : TableView) → HasNodes v one.now.pending → HasNodes v other.now.pending → result ≡ dominated.can_replace (state_of v one.now) (state_of v other.now) }
 {
@@ -48,7 +48,7 @@ fn can_replace(one: &State, other: &State) -> bool
     is_same(one, other) || (may_forget(other) && is_same(one, &forgotten))
 }
 
-/// Whether by a change the first length is no more than the second.
+/// Whether the first length is at most the second, if the value is then written with other quotes.
 fn is_no_longer(change: Option<Change>, one: u64, other: u64) -> bool
     requires few { IfSome change IsFew }
     requires one { one < 2 ^ 34 }
@@ -61,7 +61,7 @@ fn is_no_longer(change: Option<Change>, one: u64, other: u64) -> bool
     }
 }
 
-/// Whether by a change the first length is less than the second.
+/// Whether the first length is less than the second, if the value is then written with other quotes.
 fn is_shorter(change: Option<Change>, one: u64, other: u64) -> bool
     requires few { IfSome change IsFew }
     requires one { one < 2 ^ 34 }
@@ -74,7 +74,7 @@ fn is_shorter(change: Option<Change>, one: u64, other: u64) -> bool
     }
 }
 
-/// Whether an edge is outdone by this one before it.
+/// Whether an edge is dominated by this one, which comes before it.
 fn dominates_in_front(table: &Table, unit: Unit, edge: &Edge, other: &Edge) -> bool
     requires edge { IsOfTable table.now edge.now }
     requires other { IsOfTable table.now other.now }
@@ -86,7 +86,7 @@ fn dominates_in_front(table: &Table, unit: Unit, edge: &Edge, other: &Edge) -> b
         || is_no_longer(change_of(unit, &edge.to, &other.to), other_len, len)
 }
 
-/// Whether an edge is outdone by this one after it.
+/// Whether an edge is dominated by this one, which comes after it.
 fn dominates_after(table: &Table, unit: Unit, edge: &Edge, other: &Edge) -> bool
     requires edge { IsOfTable table.now edge.now }
     requires other { IsOfTable table.now other.now }
@@ -98,7 +98,7 @@ fn dominates_after(table: &Table, unit: Unit, edge: &Edge, other: &Edge) -> bool
         || is_shorter(change_of(unit, &edge.to, &other.to), other_len, len)
 }
 
-/// Whether an edge is outdone by one of these before it.
+/// Whether an edge is dominated by one of these, which come before it.
 fn some_dominates_in_front(table: &Table, unit: Unit, edge: &Edge, others: &[Edge]) -> bool
     requires edge { IsOfTable table.now edge.now }
     requires others { AreOfTable table.now others.now }
@@ -112,7 +112,7 @@ fn some_dominates_in_front(table: &Table, unit: Unit, edge: &Edge, others: &[Edg
     false
 }
 
-/// Whether an edge is outdone by one of these after it.
+/// Whether an edge is dominated by one of these, which come after it.
 fn some_dominates_after(table: &Table, unit: Unit, edge: &Edge, others: &[Edge]) -> bool
     requires edge { IsOfTable table.now edge.now }
     requires others { AreOfTable table.now others.now }
@@ -126,7 +126,7 @@ fn some_dominates_after(table: &Table, unit: Unit, edge: &Edge, others: &[Edge])
     false
 }
 
-/// Whether an edge is outdone by one of those before it or after it.
+/// Whether an edge is dominated by one of those before it (`front`) or after it (`after`).
 fn is_dominated(table: &Table, unit: Unit, edge: &Edge, front: &[Edge], after: &[Edge]) -> bool
     requires edge { IsOfTable table.now edge.now }
     requires front { AreOfTable table.now front.now }
@@ -138,7 +138,7 @@ fn is_dominated(table: &Table, unit: Unit, edge: &Edge, front: &[Edge], after: &
         || some_dominates_after(table, unit, edge, after)
 }
 
-/// Keeps an edge after the others, unless it is outdone.
+/// Appends an edge, unless it is dominated.
 fn keep(kept: &mut Vec<Edge>, edge: Edge, dominated: bool) -> Result<(), OutOfMemory>
     ensures { OnOk result (kept.new.items ≡ kept.old.items ++ (if dominated then [] else edge ∷ [])) }
 {
@@ -150,7 +150,7 @@ fn keep(kept: &mut Vec<Edge>, edge: Edge, dominated: bool) -> Result<(), OutOfMe
     Ok(())
 }
 
-/// The edges of a state that no other one outdoes, in their order.
+/// The edges of a state that no other one dominates, in their order.
 fn without_dominated(
     alloc: Global,
     table: &Table,
@@ -170,7 +170,7 @@ fn without_dominated(
     Ok(kept)
 }
 
-/// Of the edges of a state, those that a format's graph has.
+/// The edges of a state that the graph of this format has.
 pub(crate) fn edges_in(
     alloc: Global,
     table: &Table,

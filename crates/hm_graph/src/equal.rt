@@ -6,12 +6,14 @@ ghost use Rattle.hm_edges.specs.declared.states.Pending.TheVariants as pending;
 use hm_edges::{Pending, Piece, Quoting, State, Where};
 use hm_refs::{NameId, Node};
 
+/// Whether the two are equal.
 fn is_where(one: Where, other: Where) -> bool
     ensures { IsTrue result ↔ (one ≡ other) }
 {
     one == other
 }
 
+/// Whether this is `Ampersand` with that node.
 fn is_ampersand(one: Pending, node: Node) -> bool
     ensures { IsTrue result ↔ (one ≡ pending.Ampersand node) }
 {
@@ -21,6 +23,7 @@ fn is_ampersand(one: Pending, node: Node) -> bool
     }
 }
 
+/// Whether this is `Named` with that node.
 fn is_named(one: Pending, node: Node) -> bool
     ensures { IsTrue result ↔ (one ≡ pending.Named node) }
 {
@@ -30,6 +33,7 @@ fn is_named(one: Pending, node: Node) -> bool
     }
 }
 
+/// Whether this is `Half` with that node or none.
 fn is_half(one: Pending, left: Option<Node>) -> bool
     ensures { IsTrue result ↔ (one ≡ pending.Half left) }
 {
@@ -39,6 +43,7 @@ fn is_half(one: Pending, left: Option<Node>) -> bool
     }
 }
 
+/// Whether the two are equal.
 fn is_pending(one: Pending, other: Pending) -> bool
     ensures { IsTrue result ↔ (one ≡ other) }
 {
@@ -64,6 +69,7 @@ pub(crate) fn is_state(one: &State, other: &State) -> bool
     is_where(one.at, other.at) && is_pending(one.pending, other.pending)
 }
 
+/// Whether this is `StartTag` with that field.
 fn is_start_tag(one: Piece, closes: bool) -> bool
     ensures { IsTrue result → one ≡ pieces.StartTag closes }
 {
@@ -73,6 +79,7 @@ fn is_start_tag(one: Piece, closes: bool) -> bool
     }
 }
 
+/// Whether this is `Attribute` with those fields.
 fn is_attribute(one: Piece, gap: bool, form: Quoting) -> bool
     ensures { IsTrue result → one ≡ pieces.Attribute gap form }
 {
@@ -85,6 +92,7 @@ fn is_attribute(one: Piece, gap: bool, form: Quoting) -> bool
     }
 }
 
+/// Whether this is `Quote` with that field.
 fn is_quote(one: Piece, double: bool) -> bool
     ensures { IsTrue result → one ≡ pieces.Quote double }
 {
@@ -94,6 +102,7 @@ fn is_quote(one: Piece, double: bool) -> bool
     }
 }
 
+/// Whether this is `TagClose` with those fields.
 fn is_tag_close(one: Piece, space: bool, closes: bool) -> bool
     ensures { IsTrue result → one ≡ pieces.TagClose space closes }
 {
@@ -106,6 +115,7 @@ fn is_tag_close(one: Piece, space: bool, closes: bool) -> bool
     }
 }
 
+/// Whether this is `Name` with that number.
 fn is_name(one: Piece, id: NameId) -> bool
     ensures { IsTrue result → one ≡ pieces.Name id }
 {
@@ -115,6 +125,7 @@ fn is_name(one: Piece, id: NameId) -> bool
     }
 }
 
+/// Whether this is `Decimal` with those fields.
 fn is_decimal(one: Piece, number: u32, closed: bool) -> bool
     ensures { IsTrue result → one ≡ pieces.Decimal number closed }
 {
@@ -127,6 +138,7 @@ fn is_decimal(one: Piece, number: u32, closed: bool) -> bool
     }
 }
 
+/// Whether this is `Hexadecimal` with those fields.
 fn is_hexadecimal(one: Piece, number: u32, closed: bool) -> bool
     ensures { IsTrue result → one ≡ pieces.Hexadecimal number closed }
 {
@@ -139,6 +151,7 @@ fn is_hexadecimal(one: Piece, number: u32, closed: bool) -> bool
     }
 }
 
+/// Whether this is `Section` with those fields.
 fn is_section(one: Piece, opens: bool, closes: bool) -> bool
     ensures { IsTrue result → one ≡ pieces.Section opens closes }
 {

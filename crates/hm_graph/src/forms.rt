@@ -1,4 +1,4 @@
-//! Forms of a value, one in place of another.
+//! What a change of a value's quotes may cost.
 ghost use Rattle.std.specs.Prelude.{◌≡◌, ◌||◌, List, ℕ, IfSome};
 ghost use Rattle.hm_edges.specs.States.{state_of, where_of};
 ghost use Rattle.hm_edges.specs.Units.{StandsFor};
@@ -13,27 +13,29 @@ ghost use Rattle.hm_refs.specs.Tables.{TableView};
 
 use hm_edges::{Need, Needs, Pending, State, Unit, Where};
 
-/// How many bytes a form of a value and all after it may take more than in another form, and how many fewer they take at
-/// least.
+/// How many bytes more a value and all after it may take with other quotes, and how many fewer they take at least.
 #[derive(Clone, Copy)]
 pub(crate) struct Change {
     pub(crate) added: u64,
     pub(crate) saved: u64,
 }
 
+/// Whether the value has no such character.
 fn is_absent(need: Need) -> bool
     ensures { result ≡ told.is_absent need }
 {
     matches!(need, Need::Absent)
 }
 
+/// Whether a reference to one of the characters is costly.
 pub(crate) fn is_costly_need(need: Need) -> bool
     ensures { result ≡ told.is_costly_need need }
 {
     matches!(need, Need::Dear)
 }
 
-/// What is spared by a form in which characters stand as themselves that need these in the other one.
+/// The fewest bytes that a change of quotes saves if characters with the first need, or the second one, no longer need
+/// references.
 fn saved_by(one: Need, other: Need) -> u64
     ensures { result ≡ saved (told.is_costly_need one || told.is_costly_need other) }
 {
@@ -44,7 +46,7 @@ fn saved_by(one: Need, other: Need) -> u64
     }
 }
 
-/// What is spared where the form serves.
+/// A change that may add no byte and saves `saved`; None if the new quotes can't hold the value.
 fn change_where(can_replace: bool, saved: u64) -> Option<Change>
     ensures { result ≡ forms.change_where can_replace saved }
 {
@@ -55,7 +57,7 @@ fn change_where(can_replace: bool, saved: u64) -> Option<Change>
     }
 }
 
-/// From no quotes to a form: its quotes may add a byte.
+/// From no quotes to these quotes, which may add one byte.
 fn change_of_unquoted(needs: Needs, to: Where) -> Option<Change>
     ensures { result ≡ forms.unquoted_change needs (where_of to) }
 {
@@ -72,7 +74,7 @@ fn change_of_unquoted(needs: Needs, to: Where) -> Option<Change>
     }
 }
 
-/// From double quotes to a form.
+/// From double quotes to these quotes, or to none.
 fn change_of_double(needs: Needs, to: Where) -> Option<Change>
     ensures { result ≡ forms.double_change needs (where_of to) }
 {
@@ -86,7 +88,7 @@ fn change_of_double(needs: Needs, to: Where) -> Option<Change>
     }
 }
 
-/// From single quotes to a form.
+/// From single quotes to these quotes, or to none.
 fn change_of_single(needs: Needs, to: Where) -> Option<Change>
     ensures { result ≡ forms.single_change needs (where_of to) }
 {
@@ -100,7 +102,7 @@ fn change_of_single(needs: Needs, to: Where) -> Option<Change>
     }
 }
 
-/// What a form of a value may add and spares in place of another one, where it serves.
+/// How many bytes a change of quotes can add at most and saves at least; None if the new quotes can't hold the value.
 fn change_of_form(needs: Needs, from: Where, to: Where) -> Option<Change>
     ensures { result ≡ forms.form_change needs (where_of from) (where_of to) }
 {
@@ -112,7 +114,7 @@ fn change_of_form(needs: Needs, from: Where, to: Where) -> Option<Change>
     }
 }
 
-/// What the value needs that the unit opens.
+/// What the value needs that the unit opens; None if the unit opens no value.
 fn needs_in(unit: Unit) -> Option<Needs>
     ensures { (t : List Entry) (u : units.Unit) → StandsFor t unit u → AreNeeds t u result }
 {
@@ -139,7 +141,8 @@ fn has_nothing(state: &State) -> bool
     }
 }
 
-/// What a form of the value that the unit opens may add and spares in place of another one, where both begin and it serves.
+/// How many bytes a change of quotes can add at most and saves at least, if both states are at the start of the unit's
+/// value; None if the new quotes can't hold it.
 pub(crate) fn change_of(unit: Unit, from: &State, to: &State) -> Option<Change>
     ensures few { IfSome result IsFew }
     ensures change { (v : TableView) (u : units.Unit) → StandsFor v.entries unit u → IsChange v.entries u (state_of v from.now) (state_of v to.now) result }

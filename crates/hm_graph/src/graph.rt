@@ -12,8 +12,8 @@ use hm_refs::Table;
 use hm_tree::Tree;
 use std::marker::Model;
 
-/// The steps between the layers of a tree's graph, in their order, how many states the last layer has, and what the graph
-/// is of. Each different step is kept once, and equal steps in a row as one run.
+/// The steps between the layers of a tree's graph, in their order, how many states the last layer has, and the tree,
+/// table, rules and format. Each different step is kept once, and equal steps in a row as one run.
 #[derive(Drop)]
 pub struct Graph<'t> {
     pub(crate) tree: &'t Tree,
@@ -35,16 +35,16 @@ pub struct Cursor {
     pub layer: usize,
 }
 
-/// Layers that were passed.
+/// What was found on a way back over several layers.
 #[derive(Clone, Copy)]
 pub struct Passed {
-    /// The layer that was reached.
+    /// The layer that was reached, which is before the others.
     pub front: Cursor,
-    /// How many bytes the hops over them write together, from each state.
+    /// How many bytes the hops over them write together. This is the same from each state.
     pub len: u64,
 }
 
-/// Whether layers of `width` states are left out in this format where no state changes its place over the step after them.
+/// Whether this format omits layers of `width` states if no state changes its place over the step after them.
 #[inline(always)]
 fn leaves_out_still(format: Format, width: usize) -> bool
     ensures { IsTrue result → LeavesOutStill format width }
@@ -56,7 +56,7 @@ fn leaves_out_still(format: Format, width: usize) -> bool
     }
 }
 
-/// The length of each hop in bytes, where no state changes its place over a step of `width` states.
+/// The length of each hop in bytes, if no state changes its place over a step of `width` states.
 #[inline(always)]
 fn still_over(step: &Step, width: usize) -> Option<u64>
     ensures still { IfSome result (λ len. IsStill len step.now) }
@@ -86,10 +86,10 @@ impl<'t> Model for Graph<'t> {
         × (g.len ≡ length (unroll g.runs.items)) × (g.len < 2 ^ 29) × AreRuns g.runs.items };
 }
 
-/// What holds of the steps of every graph. The function does nothing.
+/// What is true of the steps of every graph. The function does nothing.
 ///
-/// What holds of the fields of a value is known to a proof only where the body reads one of them. A body that needs it calls
-/// this function, or reads a field into a name such as `_runs`.
+/// A proof knows the invariant of a value only if the body reads one of its fields. A body that needs it calls this
+/// function, or reads a field into a name such as `_runs`.
 #[inline(always)]
 pub fn every_graph(graph: &Graph)
     ensures graph { IsGraph graph.now }
@@ -99,14 +99,14 @@ pub fn every_graph(graph: &Graph)
 }
 
 impl<'t> Graph<'t> {
-    /// The tree that it is of.
+    /// The tree whose graph this is.
     pub fn tree(&self) -> &'t Tree
         ensures { result.now ≡ self.now.source.tree }
     {
         self.tree
     }
 
-    /// The table of names that it is by.
+    /// The table of names that the graph was made with.
     #[inline(always)]
     pub fn table(&self) -> &'t Table
         ensures { result.now ≡ self.now.source.table }
@@ -121,7 +121,7 @@ impl<'t> Graph<'t> {
         self.rules
     }
 
-    /// The format of certificates that it is for.
+    /// The format of certificates that the graph was made for.
     #[inline(always)]
     pub fn format(&self) -> Format
         ensures { result ≡ self.now.source.format }
@@ -136,7 +136,7 @@ impl<'t> Graph<'t> {
         self.len
     }
 
-    /// How many states the last layer has.
+    /// The number of states of the last layer.
     pub fn last(&self) -> usize
         ensures { result ≡ self.now.last }
     {
@@ -177,7 +177,7 @@ impl<'t> Graph<'t> {
         &self.steps[self.runs[at.run].number as usize]
     }
 
-    /// The next layer.
+    /// The layer after `at`.
     pub fn next(&self, at: Cursor) -> Cursor
         requires place { IsPlace self.now at }
         requires inside { at.layer < length self.now.steps }
@@ -201,7 +201,7 @@ impl<'t> Graph<'t> {
         }
     }
 
-    /// The previous layer.
+    /// The layer before `at`.
     pub fn back(&self, at: Cursor) -> Cursor
         requires place { IsPlace self.now at }
         requires some { 0 < at.layer }
@@ -242,7 +242,7 @@ impl<'t> Graph<'t> {
         }
     }
 
-    /// Goes on over at most `limit` layers that have the same step after them as this one.
+    /// Goes forward over at most `limit` layers that have the same step after them as this one.
     pub fn next_alike(&self, at: Cursor, limit: usize) -> Cursor
         requires place { IsPlace self.now at }
         requires inside { at.layer < length self.now.steps }
@@ -265,7 +265,7 @@ impl<'t> Graph<'t> {
         }
     }
 
-    /// Goes back from a layer over layers that a certificate leaves out, but not to the first layer. Each of them has
+    /// Goes back from a layer over layers that a certificate omits, but not to the first layer. Each of them has
     /// `width` states, and none changes its place.
     pub fn back_still(&self, at: Cursor, width: usize) -> Passed
         requires place { IsPlace self.now at }
@@ -294,8 +294,7 @@ impl<'t> Graph<'t> {
         Passed { front, len }
     }
 
-    /// How many layers a certificate writes: the last one isn't counted, and the first one only where its step isn't left
-    /// out.
+    /// How many layers a certificate writes. The last one isn't counted, and the first one only if its step is written.
     pub fn count_kept(&self) -> usize
         ensures { result ≡ kept_count self.now.source.format self.now.steps }
     {

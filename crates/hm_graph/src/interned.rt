@@ -1,4 +1,4 @@
-//! Lists of states and steps that are interned (each made once, and numbered) while a graph is built.
+//! Interned lists of states and steps: each is made once and numbered while a graph is built.
 ghost use Rattle.std.specs.Prelude.{◌≡◌, ◌<◌, ◌≤◌, ◌∷◌, [], Bool, false, true, None, Some, length, map, take, IfOk, IfSome, IsTrue};
 ghost use Rattle.std.specs.List.{All, HoldsAt};
 ghost use Rattle.std.specs.Str.{chars};
@@ -24,13 +24,13 @@ use std::alloc::Global;
 use std::collections::HashMap;
 use std::marker::Model;
 
-/// How many lists, steps or layers are too many: memory then counts as refused.
+/// With this many lists, steps or layers the graph fails with `OutOfMemory`.
 pub(crate) const LIMIT: usize = 1 << 29;
 
-/// How many lists are searched for one that is there.
+/// How many lists are searched for an equal one.
 const SEARCHED: usize = 256;
 
-/// Lists of states with numbers, and the steps from them with numbers, each made once.
+/// Numbered lists of states and the numbered steps from them, each made once.
 #[derive(Drop)]
 pub(crate) struct Interned<'t> {
     alloc: Global,
@@ -38,15 +38,15 @@ pub(crate) struct Interned<'t> {
     rules: EdgeRules,
     lists: Vec<States>,
     steps: Vec<MadeStep>,
-    /// The steps of lists and units that were asked for.
+    /// The steps of lists and units that were looked up before.
     memo: Vec<KnownStep>,
-    /// Where the memo may have a list and a unit. What is there is looked at before it is taken.
+    /// Where the memo may have a list and a unit. The entry there is compared before it is used.
     memo_index: HashMap<StepKey, u32>,
-    /// As `memo_index`, for lists and units that have a slot in common.
+    /// As `memo_index`, for lists and units that share a slot.
     hint_slots: Vec<u32>,
-    /// What the names of the table tell of ASCII characters.
+    /// Facts about ASCII characters from the names of the table.
     told: EntityFacts,
-    /// Where such characters lead that have another one after them.
+    /// Where ASCII characters lead that have another one after them.
     text_rows: Vec<PlainRow>,
     /// Where the last characters of texts lead.
     last_rows: Vec<PlainRow>,
@@ -70,10 +70,10 @@ impl<'t> Model for Interned<'t> {
         × All (IsRow (record { table = m.table.now; rules = m.rules; lists = map (λ l. l.items) m.lists.items; steps = m.steps.items }) false) m.last_rows.items };
 }
 
-/// How many places there are for hints.
+/// The number of slots for hints.
 const HINTS: usize = 1 << 14;
 
-/// The need as a number below three.
+/// A number below three for a need.
 #[inline(always)]
 fn need_number(need: Need) -> u32 {
     match need {
@@ -89,7 +89,7 @@ fn needs_number(needs: Needs) -> u32 {
     need_number(needs.double) ^ need_number(needs.single) << 1 ^ need_number(needs.other) << 2
 }
 
-/// The place of the hint for a list and a unit.
+/// The slot of the hint for a list and a unit.
 #[inline(always)]
 fn hint_place(list: u32, unit: &Unit) -> usize {
     let own = match *unit {
@@ -120,19 +120,19 @@ fn hint_place(list: u32, unit: &Unit) -> usize {
     (own ^ list.wrapping_mul(0x9E37_79B1) >> 18) as usize % HINTS
 }
 
-/// Places for hints, with none known.
+/// Empty slots for hints.
 fn no_hints(alloc: Global) -> Result<Vec<u32>, OutOfMemory> {
     Ok(vec![in alloc; 0; HINTS]?)
 }
 
-/// Puts a hint to its place.
+/// Writes a hint into its slot.
 fn put_hint(hints: &mut Vec<u32>, at: usize, place: u32) {
     if let Some(hint) = hints.get_mut(at) {
         *hint = place;
     }
 }
 
-/// Whether the lists are the same.
+/// Whether the lists are equal.
 fn are_same(one: &[State], other: &[State]) -> bool
     ensures { IsTrue result → one.now ≡ other.now }
 {
@@ -147,7 +147,7 @@ fn are_same(one: &[State], other: &[State]) -> bool
     true
 }
 
-/// The place of a list with just these states, where it is one of the first lists.
+/// The number of the list with exactly these states, if it is one of the first lists.
 fn number_of(lists: &[States], states: &[State]) -> Option<u32>
     ensures there { IfSome result (λ k. k < length lists.now) }
     ensures list { IfSome result (HoldsAt (λ l. l.items ≡ states.now) lists.now) }
@@ -177,7 +177,7 @@ fn first_lists(alloc: Global) -> Result<Vec<States>, OutOfMemory>
     Ok(lists)
 }
 
-/// A character that has another one after it in the same text.
+/// A character that another one follows in the same text.
 #[inline(always)]
 fn character_in_front(kind: TextKind, c: char, pair: Option<char>) -> Unit
     ensures { result ≡ Character kind c pair true }
@@ -190,7 +190,7 @@ fn character_in_front(kind: TextKind, c: char, pair: Option<char>) -> Unit
     }
 }
 
-/// Rows in which nothing is known: for characters of texts, and for last ones.
+/// Two sets of empty rows: for characters that others follow, and for the last ones.
 fn no_rows_twice(alloc: Global) -> Result<(Vec<PlainRow>, Vec<PlainRow>), OutOfMemory>
     ensures text { IfOk result (λ rows. (m : InternedView) (more : Bool) → All (IsRow m more) rows.0.items) }
     ensures last { IfOk result (λ rows. (m : InternedView) (more : Bool) → All (IsRow m more) rows.1.items) }
@@ -212,7 +212,7 @@ fn steps_of(alloc: Global, all: Vec<MadeStep>) -> Result<Vec<Step>, OutOfMemory>
 }
 
 impl<'t> Interned<'t> {
-    /// List 0 has the first state. There are no steps.
+    /// No steps, and one list, number 0, of the state before the first unit.
     pub(crate) fn new(
         alloc: Global,
         table: &'t Table,
@@ -254,14 +254,14 @@ impl<'t> Interned<'t> {
         self.rules
     }
 
-    /// Whether it is known that no name for two code points begins with the character.
+    /// True only if no name for two code points starts with the character. It may be false for such a character too.
     fn is_lone(&self, c: char) -> bool
         ensures { IsTrue result → BeginsNoPair self.now.table.entries c }
     {
         self.told.is_lone(c)
     }
 
-    /// The next character, where some name stands for the two.
+    /// The next character, if some name gives the two; else None.
     fn pair_of(&self, c: char, next: char) -> Option<char>
         ensures { result ≡ units.pair_of self.now.table.entries c (Some next) }
     {
@@ -271,7 +271,7 @@ impl<'t> Interned<'t> {
         }
     }
 
-    /// What a value needs.
+    /// Which characters of a value can't be written as themselves, by its quotes.
     pub(crate) fn needs_of(&self, value: &str) -> Needs
         ensures { result ≡ units.needs_of self.now.table.entries (chars value.now) }
     {
@@ -296,7 +296,7 @@ impl<'t> Interned<'t> {
         self.steps[number as usize].after
     }
 
-    /// The step of this number.
+    /// The step with this number.
     #[inline(always)]
     pub(crate) fn made_step(&self, number: u32) -> &Step
         requires { number < length self.now.steps }
@@ -305,7 +305,7 @@ impl<'t> Interned<'t> {
         &self.steps[number as usize].step
     }
 
-    /// The steps.
+    /// The steps in the order of their numbers.
     pub(crate) fn into_steps(self) -> Result<Vec<Step>, OutOfMemory>
         ensures { IfOk result (λ steps. steps.items ≡ map (λ made. made.step) self.entry.steps) }
     {
@@ -325,7 +325,7 @@ impl<'t> Interned<'t> {
         steps_of(alloc, steps)
     }
 
-    /// The number of the step of this list and unit, where they are at this place of the memo.
+    /// The number of the step of this list and unit, if entry `place` of the memo has them.
     #[inline(always)]
     fn memo_at(&self, place: u32, list: u32, unit: &Unit) -> Option<u32>
         ensures { IfSome result (IsStepOf self.now list unit.now) }
@@ -338,7 +338,7 @@ impl<'t> Interned<'t> {
         }
     }
 
-    /// The number of the step of this list and unit, where they are found by their hint.
+    /// The number of the step of this list and unit, if their hint leads to it.
     #[inline(always)]
     fn hinted(&self, list: u32, unit: &Unit) -> Option<u32>
         ensures { IfSome result (IsStepOf self.now list unit.now) }
@@ -347,7 +347,7 @@ impl<'t> Interned<'t> {
         self.memo_at(place, list, unit)
     }
 
-    /// The place in the memo of this list and unit and the number of their step, where they are known.
+    /// The entry of the memo for this list and unit and the number of their step, if they are known.
     fn known_step(&self, front: &StepKey) -> Option<(u32, u32)>
         ensures { IfSome result (λ known. IsStepOf self.now front.now.list front.now.unit known.1) }
     {
@@ -356,7 +356,7 @@ impl<'t> Interned<'t> {
         Some((place, number))
     }
 
-    /// Lets the hint of a list and a unit point to their place in the memo.
+    /// Points the hint of a list and a unit to their entry in the memo.
     fn point_hint(&mut self, front: &StepKey, place: u32)
         ensures { self.new ≡ self.old }
     {
@@ -367,14 +367,14 @@ impl<'t> Interned<'t> {
         );
     }
 
-    /// The number of a list with these states, where it is one of the first lists.
+    /// The number of a list with these states, if it is one of the first lists.
     fn found_list(&self, states: &States) -> Option<u32>
         ensures { IfSome result (IsListOf self.now states.now.items) }
     {
         number_of(self.lists.as_slice(), states.as_slice())
     }
 
-    /// Adds a list with these states, and gives its number.
+    /// Adds a list with these states and gives its number.
     fn add_list(&mut self, states: States) -> Result<u32, OutOfMemory>
         requires { HaveNodes self.old.table states.items }
         ensures list { IfOk result (IsListOf self.new states.items) }
@@ -388,7 +388,7 @@ impl<'t> Interned<'t> {
         Ok(number as u32)
     }
 
-    /// The number of a list with these states: of an earlier one, or of one that is added.
+    /// The number of a list with these states. It is added if there is none.
     fn list_of(&mut self, states: States) -> Result<u32, OutOfMemory>
         requires { HaveNodes self.old.table states.items }
         ensures list { IfOk result (IsListOf self.new states.items) }
@@ -400,7 +400,7 @@ impl<'t> Interned<'t> {
         self.add_list(states)
     }
 
-    /// The number of a step with these hops and this list after it, where it is one of the first steps.
+    /// The number of a step with these hops and this list after it, if it is one of the first steps.
     fn found_made(&self, made: &MadeStep) -> Option<u32>
         ensures there { IfSome result (λ n. n < length self.now.steps) }
         ensures made { IfSome result (λ n. made_at self.now n ≡ made.now) }
@@ -408,7 +408,7 @@ impl<'t> Interned<'t> {
         equal_made(self.steps.as_slice(), &made.step, made.after)
     }
 
-    /// Adds a step with the list after it, and gives its number.
+    /// Adds a step with the list after it and gives its number.
     fn add_made(&mut self, made: MadeStep) -> Result<u32, OutOfMemory>
         ensures there { IfOk result (λ n. n < length self.new.steps) }
         ensures made { IfOk result (λ n. made_at self.new n ≡ made) }
@@ -422,7 +422,7 @@ impl<'t> Interned<'t> {
         Ok(number as u32)
     }
 
-    /// The number of a step with these hops and this list after it: of an earlier one, or of one that is added.
+    /// The number of a step with these hops and this list after it. It is added if there is none.
     fn made_of(&mut self, made: MadeStep) -> Result<u32, OutOfMemory>
         ensures there { IfOk result (λ n. n < length self.new.steps) }
         ensures made { IfOk result (λ n. made_at self.new n ≡ made) }
@@ -434,7 +434,7 @@ impl<'t> Interned<'t> {
         self.add_made(made)
     }
 
-    /// Notes the number of the step of a list and a unit.
+    /// Adds the number of the step of a list and a unit to the memo.
     fn note(&mut self, front: StepKey, number: u32) -> Result<(), OutOfMemory>
         requires list { front.list < length self.old.lists }
         requires step { IsStepOf self.old front.list front.unit number }
@@ -469,7 +469,7 @@ impl<'t> Interned<'t> {
         Ok((step, after))
     }
 
-    /// Keeps a step and the states after it, and gives the number of the step.
+    /// Interns a step and the states after it, and gives the number of the step.
     fn keep_layer(&mut self, step: Step, after: States) -> Result<u32, OutOfMemory>
         requires { HaveNodes self.old.table after.items }
         ensures there { IfOk result (λ n. n < length self.new.steps) }
@@ -481,7 +481,7 @@ impl<'t> Interned<'t> {
         self.made_of(MadeStep { step, after: list })
     }
 
-    /// Makes the step of a unit from the states of a list.
+    /// Makes the step of a unit from the states of a list, and gives its number.
     fn make(&mut self, front: StepKey) -> Result<u32, OutOfMemory>
         requires { front.list < length self.old.lists }
         ensures step { IfOk result (IsStepOf self.new front.list front.unit) }
@@ -493,7 +493,7 @@ impl<'t> Interned<'t> {
         Ok(number)
     }
 
-    /// The step of a unit from the states of a list that has no hint: an earlier one, or one that is made.
+    /// The number of the step of a unit from the states of a list that has no hint. The step is made if there is none.
     #[inline(never)]
     fn step_without_hint(&mut self, front: StepKey) -> Result<u32, OutOfMemory>
         requires { front.list < length self.old.lists }
@@ -507,7 +507,7 @@ impl<'t> Interned<'t> {
         self.make(front)
     }
 
-    /// The step of a unit from the states of a list: an earlier one, or one that is made.
+    /// The number of the step of a unit from the states of a list. The step is made if there is none.
     #[inline(always)]
     pub(crate) fn step(&mut self, list: u32, unit: &Unit) -> Result<u32, OutOfMemory>
         requires { list < length self.old.lists }
@@ -521,7 +521,7 @@ impl<'t> Interned<'t> {
     }
 
     /// Where the plain characters at the start of a text lead, as far as they are known to lead to one place, each with
-    /// another one after it. They are more than one only where that place is the list itself.
+    /// another one after it. They are more than one only if that place is the list itself.
     #[inline(always)]
     pub(crate) fn alike(&self, list: u32, kind: TextKind, text: &[u8]) -> Alike
         ensures within { result.count ≤ length text.now }
@@ -535,7 +535,7 @@ impl<'t> Interned<'t> {
         }
     }
 
-    /// Keeps where a character leads that has another one after it, and with which no name for two code points begins.
+    /// Keeps where a character leads that another one follows, if no name for two code points starts with it.
     fn keep_text(
         &mut self,
         list: u32,
@@ -569,7 +569,7 @@ impl<'t> Interned<'t> {
         keep(self.alloc, &mut self.last_rows, list, kind, c, to)
     }
 
-    /// Where the step of a character leads from the states of a list, with this one after it in the same text.
+    /// Where the step of a character leads from the states of a list, if `next` follows it in the same text.
     pub(crate) fn character_step(
         &mut self,
         list: u32,
@@ -603,7 +603,7 @@ impl<'t> Interned<'t> {
         row.step(c)
     }
 
-    /// The same, found as that of any unit. It is kept, where it can be.
+    /// Finds where the last character of a text leads as for any unit, and keeps it if there is room for it.
     #[inline(never)]
     fn found_last(&mut self, list: u32, kind: TextKind, c: char) -> Result<Reached, OutOfMemory>
         requires { list < length self.old.lists }

@@ -5,52 +5,52 @@ ghost use Rattle.hm_graph.specs.Laws.{FullRowsAgree, KeepingAgrees, RowsAreLeast
 
 pub use crate::graph::every_graph;
 
-/// The prices over steps are the least ones of their graph.
+/// The prices over steps are the least ones in their graph.
 pub fn rows_are_least()
     ensures { RowsAreLeast }
 {}
 
-/// The way over steps is the first one of their graph.
+/// The way over steps is the first one in their graph.
 pub fn way_is_first()
     ensures { WayIsFirst }
 {}
 
-/// Each way over steps is one of their graph.
+/// Each way over steps is one in their graph.
 pub fn ways_are_ways()
     ensures { WaysAreWays }
 {}
 
-/// The rows that are written are those of the graph.
+/// The rows that a certificate writes are those of the graph.
 pub fn written_rows_agree()
     ensures { WrittenRowsAgree }
 {}
 
-/// What written rows stand for is what they do in the graph.
+/// Written rows restore the same full rows over steps as in the graph.
 pub fn full_rows_agree()
     ensures { FullRowsAgree }
 {}
 
-/// Prices keep the rules over steps exactly where they do in the graph.
+/// Prices are feasible over steps exactly if they are in the graph.
 pub fn keeping_agrees()
     ensures { KeepingAgrees }
 {}
 
-/// Each state of a graph has at most 71 hops, so a place among them fits into a byte.
+/// Each state of a graph has at most 71 hops, so the index of a hop fits into a byte.
 pub fn states_have_few_hops()
     ensures { StatesHaveFewHops }
 {}
 
-/// Before a layer of one state, prices are those up to that state, raised by its own.
+/// Before a layer of one state, prices are those up to that state, each raised by its price.
 pub fn prices_are_joined()
     ensures { PricesAreJoined }
 {}
 
-/// Rows that are written before a layer of one state are those up to that state, raised by its price.
+/// Rows that are written before a layer of one state are those up to that state, each raised by its price.
 pub fn kept_rows_are_joined()
     ensures { KeptRowsAreJoined }
 {}
 
-/// The first way over a layer of one state is the one up to that state, and the one after it.
+/// The first way over a layer of one state is the one up to that state, followed by the one after it.
 pub fn ways_are_joined()
     ensures { WaysAreJoined }
 {}

@@ -18,10 +18,10 @@ use hm_refs::Table;
 use smallvec::SmallVec;
 use std::alloc::Global;
 
-/// The states of a layer. Up to four lie in the value itself: few layers of pages have more.
+/// The states of a layer. Up to four are stored inline: few layers of pages have more.
 pub(crate) type States = SmallVec<State, 4>;
 
-/// The place of a state among these, where it is one of them.
+/// The index of a state among these, if it is one of them.
 fn place_in(states: &[State], state: &State) -> Option<usize>
     ensures { (v : TableView) → HaveNodes v states.now → HasNodes v state.now.pending → result ≡ place_of (states_of v states.now) (state_of v state.now) }
 {
@@ -33,7 +33,7 @@ fn place_in(states: &[State], state: &State) -> Option<usize>
     None
 }
 
-/// The place of a state among these. It is added at the end where it isn't one of them.
+/// The index of a state among these. It is appended if it isn't one of them.
 fn place(states: &mut States, state: &State) -> Result<usize, OutOfMemory>
     ensures { (v : TableView) → HaveNodes v states.old.items → HasNodes v state.now.pending → IfOk result (IsPlaced v state.now states.old.items states.new.items) }
 {
@@ -45,7 +45,7 @@ fn place(states: &mut States, state: &State) -> Result<usize, OutOfMemory>
     Ok(place)
 }
 
-/// The hop of an edge of the unit. Its end is added to the next layer's states, where it isn't one of them.
+/// The hop of an edge of the unit. The state that it leads to is added to the next layer if it isn't there.
 fn hop_of(table: &Table, unit: Unit, edge: &Edge, after: &mut States) -> Result<Hop, OutOfMemory>
     requires edge { IsOfTable table.now edge.now }
     requires nodes { HaveNodes table.now after.old.items }
@@ -60,7 +60,7 @@ fn hop_of(table: &Table, unit: Unit, edge: &Edge, after: &mut States) -> Result<
     })
 }
 
-/// The hops of these edges of the unit, in their order. Their ends are added to the next layer's states.
+/// The hops of these edges of the unit, in their order. The states that they lead to are added to the next layer.
 fn hops_of(
     alloc: Global,
     table: &Table,
@@ -79,7 +79,7 @@ fn hops_of(
     Ok(hops)
 }
 
-/// What a unit leads to from some states: the hops of each, and the next layer's states.
+/// Where a unit leads from some states: the hops of each, and the states of the next layer.
 #[derive(Drop)]
 pub(crate) struct Layer {
     pub(crate) hops: Vec<Vec<Hop>>,
@@ -103,7 +103,7 @@ fn edges_from(
     edges_in(alloc, table, rules.format, unit, edges)
 }
 
-/// The hops of a unit's edges from a state, in their order. Their ends are added to the next layer's states.
+/// The hops of a unit's edges from a state, in their order. The states that they lead to are added to the next layer.
 #[inline(always)]
 fn hops_from(
     alloc: Global,
@@ -121,7 +121,7 @@ fn hops_from(
     hops_of(alloc, table, unit, edges.as_slice(), after)
 }
 
-/// Adds the hops of one more state, and their ends to the next layer's states.
+/// Adds the hops of one more state, and the states that they lead to.
 #[inline(always)]
 fn add_state(
     alloc: Global,
@@ -141,7 +141,7 @@ fn add_state(
     Ok(())
 }
 
-/// Finds the hops of each of these states, and the next layer's states.
+/// Finds the hops of each of these states, and the states of the next layer.
 pub(crate) fn find_layer(
     alloc: Global,
     table: &Table,

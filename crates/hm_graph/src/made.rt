@@ -1,4 +1,4 @@
-//! Steps that are kept, and which of them a unit has from a list.
+//! Steps that were made, and which of them a unit has from a list.
 ghost use Rattle.std.specs.Prelude.{◌≡◌, ◌<◌, length, IfSome, IsTrue};
 ghost use Rattle.std.specs.List.{HoldsAt};
 ghost use Rattle.hm_edges.specs.declared.units.Unit.TheVariants.{AttributeEnd, AttributeName, BareAttribute, Character, EndTag, Fixed, StartTag, TagClose, TagName};
@@ -6,10 +6,10 @@ ghost use Rattle.hm_edges.specs.declared.units.Unit.TheVariants.{AttributeEnd, A
 use crate::step::{Step, are_equal};
 use hm_edges::{Needs, TextKind, Unit};
 
-/// How many steps are searched for one that is there.
+/// How many steps are searched for an equal one.
 const SEARCHED: usize = 256;
 
-/// A list, by its number, and a unit.
+/// The number of a list, and a unit.
 #[derive(Clone, Copy, PartialEq, Eq, Hash)]
 pub(crate) struct StepKey {
     pub(crate) list: u32,
@@ -46,7 +46,7 @@ pub(crate) fn is_kind(one: TextKind, other: TextKind) -> bool
     one == other
 }
 
-/// Whether a unit is a start tag without attributes with all of this.
+/// Whether a unit is a start tag without attributes with all of these fields.
 #[inline(always)]
 fn is_start_tag(one: &Unit, len: u32, omits: bool, firm: bool, closes: bool) -> bool
     ensures { IsTrue result → one.now ≡ StartTag len omits firm closes }
@@ -62,7 +62,7 @@ fn is_start_tag(one: &Unit, len: u32, omits: bool, firm: bool, closes: bool) -> 
     }
 }
 
-/// Whether a unit is an end tag with all of this.
+/// Whether a unit is an end tag with all of these fields.
 #[inline(always)]
 fn is_end_tag(one: &Unit, len: u32, omits: bool, loosens: bool) -> bool
     ensures { IsTrue result → one.now ≡ EndTag len omits loosens }
@@ -77,7 +77,7 @@ fn is_end_tag(one: &Unit, len: u32, omits: bool, loosens: bool) -> bool
     }
 }
 
-/// Whether a unit is the name of a tag with so many bytes.
+/// Whether a unit is the name of a tag, of `len` bytes.
 #[inline(always)]
 fn is_tag_name(one: &Unit, len: u32) -> bool
     ensures { IsTrue result → one.now ≡ TagName len }
@@ -88,7 +88,7 @@ fn is_tag_name(one: &Unit, len: u32) -> bool
     }
 }
 
-/// Whether a unit is the name of an attribute with so many bytes, whose value needs this.
+/// Whether a unit is the name of an attribute, of `len` bytes, with these needs of the value.
 #[inline(always)]
 fn is_attribute_name(one: &Unit, len: u32, needs: Needs) -> bool
     ensures { IsTrue result → one.now ≡ AttributeName len needs }
@@ -102,7 +102,7 @@ fn is_attribute_name(one: &Unit, len: u32, needs: Needs) -> bool
     }
 }
 
-/// Whether a unit is the `>` of a tag that may close itself, or of one that may not.
+/// Whether a unit is the `>` of a tag with this field.
 #[inline(always)]
 fn is_tag_close(one: &Unit, closes: bool) -> bool
     ensures { IsTrue result → one.now ≡ TagClose closes }
@@ -124,7 +124,7 @@ fn is_attribute_end(one: &Unit) -> bool
     }
 }
 
-/// Whether a unit is of so many bytes without a choice.
+/// Whether a unit is `len` bytes without a choice.
 #[inline(always)]
 fn is_fixed(one: &Unit, len: u32) -> bool
     ensures { IsTrue result → one.now ≡ Fixed len }
@@ -135,7 +135,7 @@ fn is_fixed(one: &Unit, len: u32) -> bool
     }
 }
 
-/// Whether a unit is an attribute with an empty value and so many bytes.
+/// Whether a unit is an attribute with an empty value, whose name has `len` bytes.
 #[inline(always)]
 fn is_bare_attribute(one: &Unit, len: u32) -> bool
     ensures { IsTrue result → one.now ≡ BareAttribute len }
@@ -146,7 +146,7 @@ fn is_bare_attribute(one: &Unit, len: u32) -> bool
     }
 }
 
-/// Whether a unit is this character in such a text.
+/// Whether a unit is a character with all of these fields.
 #[inline(always)]
 fn is_character(one: &Unit, kind: TextKind, c: char, pair: Option<char>, more: bool) -> bool
     ensures { IsTrue result → one.now ≡ Character kind c pair more }
@@ -162,7 +162,8 @@ fn is_character(one: &Unit, kind: TextKind, c: char, pair: Option<char>, more: b
     }
 }
 
-/// Whether the two are equal. Where the kind of the other one is known, as it is wherever a unit is made, its test is put inline.
+/// Whether the two are equal. Where a unit is made, the kind of the other one is known, and the compiler keeps its test
+/// alone.
 #[inline(always)]
 fn is_unit(one: &Unit, other: &Unit) -> bool
     ensures { IsTrue result → one.now ≡ other.now }
@@ -195,7 +196,7 @@ fn is_unit(one: &Unit, other: &Unit) -> bool
 }
 
 impl KnownStep {
-    /// Whether it is of this unit from this list.
+    /// Whether this is the step of this unit from this list.
     #[inline(always)]
     pub(crate) fn is_from(&self, list: u32, unit: &Unit) -> bool
         ensures list { IsTrue result → self.now.list ≡ list }
@@ -205,7 +206,7 @@ impl KnownStep {
     }
 }
 
-/// The place of a step with these hops and this list after it, where it is one of the first steps.
+/// The number of a step with these hops and this list after it, if it is one of the first steps.
 pub(crate) fn equal_made(made: &[MadeStep], step: &Step, after: u32) -> Option<u32>
     ensures there { IfSome result (λ n. n < length made.now) }
     ensures step { IfSome result (HoldsAt (λ x. x.step ≡ step.now) made.now) }

@@ -1,4 +1,4 @@
-//! Numbers that come in runs of equal ones.
+//! A list of numbers, stored as runs of equal ones.
 ghost use Rattle.std.specs.Prelude.{◌≡◌, ◌<◌, ◌+◌, ◌^◌, ◌++◌, [], length, IfOk, OnErr, OnOk};
 ghost use Rattle.std.proofs.Math.ListN.{replicate};
 ghost use Rattle.hm_graph.specs.Runs.{AreRuns, unroll};
@@ -7,14 +7,14 @@ use hm_base::OutOfMemory;
 use std::alloc::Global;
 use std::marker::Model;
 
-/// A number, and how often it comes in a row.
+/// A number, and how often it is repeated.
 #[derive(Clone, Copy)]
 pub struct Run {
     pub(crate) number: u32,
     pub(crate) count: u32,
 }
 
-/// Numbers in their order. Equal ones in a row are kept as one run.
+/// Numbers in their order. Equal ones in a row are stored as one run.
 #[derive(Drop)]
 pub(crate) struct Numbers {
     runs: Vec<Run>,
@@ -34,7 +34,7 @@ impl Model for Numbers {
     ghost invariant = { λ n. AreRuns n.runs.items };
 }
 
-/// Adds a run at the end, where it isn't empty.
+/// Appends a run, if it isn't empty.
 fn push_run(runs: &mut Vec<Run>, run: Run) -> Result<(), OutOfMemory>
     requires { AreRuns runs.old.items }
     ensures runs { AreRuns runs.new.items }
@@ -48,7 +48,7 @@ fn push_run(runs: &mut Vec<Run>, run: Run) -> Result<(), OutOfMemory>
     Ok(())
 }
 
-/// Makes the last run one of this number.
+/// Starts a new last run with this number, and appends the one before.
 fn begin_run(runs: &mut Vec<Run>, latest: &mut Run, number: u32) -> Result<(), OutOfMemory>
     requires { AreRuns runs.old.items }
     ensures runs { AreRuns runs.new.items }
@@ -64,7 +64,7 @@ fn begin_run(runs: &mut Vec<Run>, latest: &mut Run, number: u32) -> Result<(), O
 }
 
 impl Numbers {
-    /// No numbers.
+    /// An empty list.
     pub(crate) fn new(alloc: Global) -> Numbers
         ensures { result ≡ [] }
     {
@@ -77,7 +77,7 @@ impl Numbers {
         }
     }
 
-    /// Adds a number `count` times at the end.
+    /// Appends a number `count` times.
     pub(crate) fn push_alike(&mut self, number: u32, count: u32) -> Result<(), OutOfMemory>
         requires { length self.old + count < 2 ^ 29 }
         ensures ok { OnOk result (self.new ≡ self.old ++ replicate count number) }
@@ -88,7 +88,7 @@ impl Numbers {
         Ok(())
     }
 
-    /// The runs.
+    /// All runs.
     pub(crate) fn into_runs(self) -> Result<Vec<Run>, OutOfMemory>
         ensures runs { IfOk result (λ runs. AreRuns runs.items) }
         ensures numbers { IfOk result (λ runs. unroll runs.items ≡ self) }

@@ -8,7 +8,7 @@ use hm_base::OutOfMemory;
 use hm_refs::{NameId, Table};
 use std::alloc::Global;
 
-/// Whether the name stands for these two code points.
+/// Whether the name gives these two code points.
 fn stands_for(table: &Table, id: NameId, c: char, d: char) -> bool
     requires { id < length table.now.entries }
     ensures { result ≡ bytes_eq (entry_at table.now.entries id).points (c ∷ d ∷ []) }
@@ -17,7 +17,7 @@ fn stands_for(table: &Table, id: NameId, c: char, d: char) -> bool
     points.first == c && points.second == Some(d)
 }
 
-/// Whether some name stands for these two code points.
+/// Whether some name gives these two code points.
 pub(crate) fn has_pair(table: &Table, c: char, d: char) -> bool
     ensures { result ≡ units.has_pair table.now.entries c d }
 {
@@ -29,7 +29,7 @@ pub(crate) fn has_pair(table: &Table, c: char, d: char) -> bool
     false
 }
 
-/// The next character, where some name stands for the two.
+/// The next character, if some name gives the two; else None.
 pub(crate) fn pair_of(table: &Table, c: char, next: char) -> Option<char>
     ensures { result ≡ units.pair_of table.now.entries c (Some next) }
 {
@@ -40,7 +40,7 @@ pub(crate) fn pair_of(table: &Table, c: char, next: char) -> Option<char>
     }
 }
 
-/// Whether the name stands for two code points.
+/// Whether the name gives two code points.
 fn is_double(table: &Table, id: NameId) -> bool
     requires { id < length table.now.entries }
     ensures { (c d : ℕ) → result ≡ false → bytes_eq (entry_at table.now.entries id).points (c ∷ d ∷ []) ≡ false }
@@ -48,7 +48,7 @@ fn is_double(table: &Table, id: NameId) -> bool
     table.points(id).second.is_some()
 }
 
-/// Whether it is known that no name for two code points begins with the character.
+/// True only if no name for two code points starts with the character. It may be false for such a character too.
 fn begins_no_pair(table: &Table, c: char) -> bool
     ensures { IsTrue result → BeginsNoPair table.now.entries c }
 {
@@ -60,7 +60,7 @@ fn begins_no_pair(table: &Table, c: char) -> bool
     true
 }
 
-/// For each ASCII character, whether it is known that no name for two code points begins with it.
+/// For each ASCII character, whether it is known that no name for two code points starts with it.
 pub(crate) fn lone_characters(alloc: Global, table: &Table) -> Result<Vec<bool>, OutOfMemory>
     ensures { IfOk result (λ lone. AreLone table.now.entries lone.items) }
 {

@@ -8,10 +8,11 @@ use hm_base::OutOfMemory;
 use hm_edges::TextKind;
 use std::alloc::Global;
 
-/// How many places a row has: one for each byte, so that none is asked whether it is of ASCII. The others stay unknown.
+/// The number of entries of a row: one for each byte, so that no byte has to be tested for ASCII. The others stay
+/// unknown.
 const WIDTH: usize = 256;
 
-/// Where characters of ASCII lead from a list in such a text, each at its place, as far as it is known.
+/// Where characters of ASCII lead from a list in such a text, each at its byte, as far as it is known.
 #[derive(Drop)]
 pub(crate) struct PlainRow {
     pub(crate) list: u32,
@@ -26,7 +27,7 @@ pub(crate) struct Alike {
     pub(crate) count: usize,
 }
 
-/// It isn't known where a character leads: no step has this number.
+/// The entry of a character of which it isn't known where it leads: no step has this number.
 #[inline(always)]
 fn no_step() -> Reached
     ensures { result ≡ unknown }
@@ -56,7 +57,7 @@ fn step_at(steps: &[Reached], byte: u8) -> Reached
     }
 }
 
-/// Whether a character leads there. One step leads to one list, so its number alone is looked at.
+/// Whether a character leads there. One step leads to one list, so only its number is compared.
 #[inline(always)]
 fn is_toward(steps: &[Reached], to: Reached, byte: u8) -> bool
     requires { 256 ≤ length steps.now }
@@ -65,7 +66,7 @@ fn is_toward(steps: &[Reached], to: Reached, byte: u8) -> bool
     steps[byte as usize].number == to.number
 }
 
-/// Whether the four characters of a text from a place on lead there.
+/// Whether four characters of a text, from byte `from` on, lead there.
 #[inline(always)]
 fn are_toward(steps: &[Reached], to: Reached, text: &[u8], from: usize) -> bool
     requires wide { 256 ≤ length steps.now }
@@ -84,8 +85,8 @@ fn are_toward(steps: &[Reached], to: Reached, text: &[u8], from: usize) -> bool
     is_toward(steps, to, text[from + 3])
 }
 
-/// How many characters at the start of a text lead where the first one does, each with another one after it. They are looked
-/// at by four, as far as all four lead there, and then one by one.
+/// How many characters at the start of a text lead where the first one does, each with another one after it. Four are
+/// compared at a time, as far as all four lead there, and then single ones.
 #[inline(always)]
 fn alike_run(steps: &[Reached], to: Reached, text: &[u8]) -> usize
     requires wide { 256 ≤ length steps.now }
@@ -116,7 +117,7 @@ pub(crate) fn none_alike() -> Alike
 }
 
 impl PlainRow {
-    /// Nothing is known.
+    /// A row in which nothing is known.
     fn of(alloc: Global, list: u32, kind: TextKind) -> Result<PlainRow, OutOfMemory>
         ensures list { IfOk result (λ row. row.list ≡ list) }
         ensures kind { IfOk result (λ row. row.kind ≡ kind) }
@@ -129,7 +130,7 @@ impl PlainRow {
         })
     }
 
-    /// Whether it is of this list.
+    /// Whether this is the row of this list and this kind of text.
     #[inline(always)]
     pub(crate) fn is_of(&self, list: u32, kind: TextKind) -> bool
         ensures list { IsTrue result → self.now.list ≡ list }
@@ -138,7 +139,7 @@ impl PlainRow {
         self.list == list && is_kind(self.kind, kind)
     }
 
-    /// Puts where a character leads.
+    /// Sets where a character leads.
     fn put(&mut self, c: char, to: Reached)
         ensures { (m : InternedView) (more : Bool) → IsRow m more self.old → Leads m self.old.list self.old.kind more to c → IsRow m more self.new }
     {
@@ -147,7 +148,7 @@ impl PlainRow {
         }
     }
 
-    /// Where a character leads, if it is known.
+    /// Where a character leads, if that is known.
     #[inline(always)]
     pub(crate) fn step(&self, c: char) -> Option<Reached>
         ensures { IfSome result (λ to. (m : InternedView) (more : Bool) → IsRow m more self.now → Leads m self.now.list self.now.kind more to c) }
@@ -157,7 +158,7 @@ impl PlainRow {
     }
 
     /// Where the characters at the start of a text lead, as far as they lead to one place, each with another one after
-    /// it. They are more than one only where that place is the list itself.
+    /// it. They are more than one only if that place is the list itself.
     #[inline(always)]
     pub(crate) fn alike(&self, text: &[u8]) -> Alike
         ensures within { result.count ≤ length text.now }
@@ -180,7 +181,7 @@ impl PlainRow {
     }
 }
 
-/// How many rows there are for texts' characters.
+/// The number of rows for the characters of texts.
 const ROWS: usize = 128;
 
 /// The list number of a row that belongs to no list.
@@ -201,7 +202,7 @@ pub(crate) fn no_rows(alloc: Global) -> Result<Vec<PlainRow>, OutOfMemory>
     Ok(rows)
 }
 
-/// A number for such texts.
+/// A number for each kind of text.
 #[inline(always)]
 fn kind_place(kind: TextKind) -> u32 {
     match kind {
@@ -212,13 +213,13 @@ fn kind_place(kind: TextKind) -> u32 {
     }
 }
 
-/// The place of the row of a list.
+/// The index of the row of a list.
 #[inline(always)]
 pub(crate) fn row_place(list: u32, kind: TextKind) -> usize {
     (list.wrapping_mul(4) ^ kind_place(kind)) as usize % ROWS
 }
 
-/// The row of a list, if it is there.
+/// The row of a list, if it is kept.
 #[inline(always)]
 pub(crate) fn row_of(rows: &[PlainRow], list: u32, kind: TextKind) -> Option<&PlainRow>
     ensures list { IfSome result (λ row. row.now.list ≡ list) }
@@ -233,7 +234,8 @@ pub(crate) fn row_of(rows: &[PlainRow], list: u32, kind: TextKind) -> Option<&Pl
     }
 }
 
-/// Keeps where a character leads from a list, in its row. If the row is another list's, that one's steps are dropped.
+/// Keeps where a character leads from a list, in its row. If the row belongs to another list, that list's steps are
+/// dropped.
 fn keep_in(
     alloc: Global,
     row: &mut PlainRow,

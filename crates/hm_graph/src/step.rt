@@ -20,7 +20,7 @@ pub struct Step {
     lists: Rc<Vec<Vec<Hop>>>,
     forced: bool,
     only: Option<Hop>,
-    /// The length of each hop in bytes, where each state has one hop, to its own place.
+    /// The length of each hop in bytes, if each state has one hop, to its own place.
     still: Option<u64>,
 }
 
@@ -39,6 +39,7 @@ impl Model for Step {
         × IfSome s.still (λ len. IsStill len (map (λ hops. hops.items) s.lists.value.items)) };
 }
 
+/// Whether there is exactly one hop.
 fn is_one(hops: &[Hop]) -> bool
     ensures { result ≡ is_single hops.now }
 {
@@ -60,6 +61,7 @@ fn are_forced(lists: &[Vec<Hop>]) -> bool
     true
 }
 
+/// The hop, if there is exactly one.
 fn one_of(hops: &[Hop]) -> Option<Hop>
     ensures { result ≡ graphs.one_of hops.now }
 {
@@ -69,7 +71,7 @@ fn one_of(hops: &[Hop]) -> Option<Hop>
     }
 }
 
-/// The only hop of the only state, where there is one of each.
+/// The only hop of the only state, if there is one of each.
 fn only_of(lists: &[Vec<Hop>]) -> Option<Hop>
     ensures { result ≡ graphs.only_hop (map (λ hops. hops.items) lists.now) }
 {
@@ -96,7 +98,7 @@ impl Step {
         Ok(step)
     }
 
-    /// The same step again. It shares the hops.
+    /// A copy of the step. It shares the hops.
     pub fn copied(&self) -> Result<Step, OutOfMemory>
         ensures { IfOk result (λ step. step ≡ self.now) }
     {
@@ -108,14 +110,14 @@ impl Step {
         })
     }
 
-    /// How many states are before it.
+    /// The number of states before it.
     pub fn width(&self) -> usize
         ensures { result ≡ length self.now }
     {
         self.lists.len()
     }
 
-    /// The hops of the state at this place, in the order of its edges.
+    /// The hops of the state with this index, in the order of its edges.
     pub fn hops(&self, place: usize) -> &[Hop]
         requires { place < length self.now }
         ensures { result.now ≡ slice_index_or self.now place [] }
@@ -123,14 +125,14 @@ impl Step {
         self.lists[place].as_slice()
     }
 
-    /// The hop, where there is one state with one hop.
+    /// The hop, if there is one state with one hop.
     pub fn only(&self) -> Option<Hop>
         ensures { result ≡ graphs.only_hop self.now }
     {
         self.only
     }
 
-    /// The length of each hop in bytes, where there are states and each has one hop, to its own place.
+    /// The length of each hop in bytes, if there are states and each has one hop, to its own place.
     pub fn still(&self) -> Option<u64>
         ensures still { IfSome result (λ len. IsStill len self.now) }
         ensures low { graphs.IsLowStep self.now → IfSome result (λ len. len < 2 ^ 33) }
@@ -138,7 +140,7 @@ impl Step {
         self.still
     }
 
-    /// Whether a certificate of this format leaves out the layer before it, where that isn't the first one.
+    /// Whether a certificate of this format omits the layer before the step, if that isn't the first one.
     pub fn is_left_out(&self, format: Format) -> bool
         ensures { result ≡ steps.leaves_out format self.now }
     {
@@ -164,7 +166,7 @@ fn is_hop(one: Hop, other: Hop) -> bool
     one.len == other.len && one.to == other.to && is_piece(one.piece, other.piece)
 }
 
-/// Whether the hops are the same.
+/// Whether the hops are equal.
 fn are_same(one: &[Hop], other: &[Hop]) -> bool
     ensures { IsTrue result → one.now ≡ other.now }
 {

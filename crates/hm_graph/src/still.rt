@@ -4,7 +4,7 @@ ghost use Rattle.hm_graph.specs.Still.{AreStill, IsStill, Stays};
 
 use crate::{Hop, Step};
 
-/// Whether there is one hop, of this length, to this place.
+/// Whether there is exactly one hop, of `len` bytes, to this place.
 fn stays(hops: &[Hop], place: usize, len: u64) -> bool
     ensures { IsTrue result → Stays len place hops.now }
 {
@@ -14,7 +14,7 @@ fn stays(hops: &[Hop], place: usize, len: u64) -> bool
     }
 }
 
-/// Whether each state has one hop, of this length in bytes, to its own place.
+/// Whether each state has exactly one hop, of `len` bytes, to its own place.
 fn are_still(step: &Step, len: u64) -> bool
     ensures { IsTrue result → AreStill len step.now }
 {
@@ -26,7 +26,7 @@ fn are_still(step: &Step, len: u64) -> bool
     true
 }
 
-/// The length of the first hop in bytes, 0 where there is none.
+/// The length of the first hop in bytes, or 0 if there is none.
 fn len_of(hops: &[Hop]) -> u64 {
     match hops {
         [hop, ..] => hop.len,
@@ -34,7 +34,7 @@ fn len_of(hops: &[Hop]) -> u64 {
     }
 }
 
-/// The length of each hop in bytes, where there are states and each has one hop, to its own place.
+/// The length of each hop in bytes, if there are states and each has one hop, to its own place.
 pub(crate) fn still_len(step: &Step) -> Option<u64>
     ensures { IfSome result (λ len. IsStill len step.now) }
 {

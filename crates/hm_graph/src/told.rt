@@ -1,4 +1,4 @@
-//! What the names of a table tell of characters.
+//! Facts about characters, precomputed from the entity table.
 ghost use Rattle.std.specs.Prelude.{◌≡◌, ◌<◌, ◌||◌, List, ℕ, false, IfOk, IsTrue, OnOk, length, slice_index_or};
 ghost use Rattle.std.specs.BTreeSet.{contains};
 ghost use Rattle.std.specs.Ordering.{nat_cmp};
@@ -14,19 +14,19 @@ use hm_refs::{NameId, Table};
 use std::alloc::Global;
 use std::collections::BTreeSet;
 
-/// Flags for the ASCII characters, and a set of characters of any kind.
+/// Facts about characters: flags for those of ASCII, and a set of characters of any kind.
 #[derive(Drop)]
 pub(crate) struct EntityFacts {
-    /// Whether it is known that no name for two code points begins with it.
+    /// By ASCII character: whether it is known that no name for two code points starts with it.
     pub(crate) lone: Vec<bool>,
-    /// Whether references to it are cheap, whatever follows it.
+    /// By ASCII character: whether references to it are cheap, whatever follows it.
     pub(crate) cheap: [bool; 128],
-    /// Those with which names without `;` end.
+    /// The characters with which names without `;` end.
     pub(crate) ends: BTreeSet<char>,
 }
 
 impl EntityFacts {
-    /// Whether it is known that no name for two code points begins with the character.
+    /// Whether it is known that no name for two code points starts with the character.
     pub(crate) fn is_lone(&self, c: char) -> bool
         ensures { (t : List Entry) → AreTold t self.now → IsTrue result → BeginsNoPair t c }
     {
@@ -37,6 +37,7 @@ impl EntityFacts {
     }
 }
 
+/// Whether the name ends with `;`.
 pub(crate) fn is_closed(name: &[u8]) -> bool
     ensures { result ≡ is_closed name.now }
 {
@@ -46,7 +47,7 @@ pub(crate) fn is_closed(name: &[u8]) -> bool
     }
 }
 
-/// The character to which a name makes references cheap: the second one, or the only one where the name is short.
+/// The character to which a name makes references cheap: the second one, or the only one if the name is short.
 fn cheapened(table: &Table, id: NameId) -> Option<char>
     requires { id < length table.now.entries }
     ensures { (c : ℕ) → is_target c result ≡ cheapens c (entry_at table.now.entries id) }
@@ -59,7 +60,7 @@ fn cheapened(table: &Table, id: NameId) -> Option<char>
     }
 }
 
-/// The character with which a name without `;` ends.
+/// The last character of a name that has no `;`.
 fn left_open(table: &Table, id: NameId) -> Option<char>
     requires { id < length table.now.entries }
     ensures { (c : ℕ) → is_target c result ≡ leaves_open c (entry_at table.now.entries id) }
@@ -86,7 +87,7 @@ fn mark(marks: &mut [bool; 128], target: Option<char>)
     }
 }
 
-/// The characters to which references are cheap.
+/// For each ASCII character, whether references to it are cheap.
 fn cheap_marks(table: &Table) -> [bool; 128]
     ensures { AreMarked cheapens table.now.entries result }
 {
@@ -118,7 +119,7 @@ fn ends_of(alloc: Global, table: &Table) -> Result<BTreeSet<char>, OutOfMemory>
     Ok(ends)
 }
 
-/// What the names of a table tell.
+/// Computes the facts from the names of a table.
 pub(crate) fn entity_facts_of(alloc: Global, table: &Table) -> Result<EntityFacts, OutOfMemory>
     ensures { IfOk result (AreTold table.now.entries) }
 {

@@ -1,4 +1,4 @@
-//! What values need, by the names of a table.
+//! Which characters of a value can't be written as themselves, by the names of a table.
 ghost use Rattle.std.specs.Prelude.{◌≡◌, ◌<◌, ◌&&◌, List, false, IsTrue};
 ghost use Rattle.std.specs.List.{list_any};
 ghost use Rattle.std.specs.Str.{chars};
@@ -19,7 +19,7 @@ use hm_edges::{Need, Needs};
 use hm_refs::Table;
 use memchr::memchr2;
 
-/// Whether references to the character may be dear.
+/// Whether references to the character may be costly.
 fn may_be_costly(c: char) -> bool
     ensures { result ≡ forms.may_be_costly c }
 {
@@ -34,7 +34,7 @@ fn may_be_costly(c: char) -> bool
         || c == '`'
 }
 
-/// Whether some name without `;` ends with the character before.
+/// Whether some name without `;` ends with the previous character.
 fn may_leave_open(told: &EntityFacts, previous: Option<char>) -> bool
     ensures { (t : List Entry) → AreTold t told.now → result ≡ forms.may_leave_open t previous }
 {
@@ -44,7 +44,7 @@ fn may_leave_open(told: &EntityFacts, previous: Option<char>) -> bool
     }
 }
 
-/// Whether some name stands for these two code points.
+/// Whether some name gives these two code points.
 fn are_paired(table: &Table, told: &EntityFacts, c: char, d: char) -> bool
     requires { AreTold table.now.entries told.now }
     ensures { result ≡ units.has_pair table.now.entries c d }
@@ -70,7 +70,7 @@ fn is_cheap(table: &Table, told: &EntityFacts, c: char, next: Option<char>) -> b
     }
 }
 
-/// Whether references to the character are dear between these two.
+/// Whether references to the character are costly between these two.
 fn is_costly(
     table: &Table,
     told: &EntityFacts,
@@ -87,7 +87,7 @@ fn is_costly(
     c != '=' || !may_leave_open(told, previous)
 }
 
-/// Whether the character may not stand without quotes.
+/// Whether a value without quotes can't hold the character.
 #[tactic(auto, unfolding(hm_spelling_spec::specs::Characters::is_barred))]
 fn is_barred(c: char) -> bool
     ensures { result ≡ spots.is_barred c }
@@ -102,7 +102,7 @@ fn needs_quotes(c: char) -> bool
     is_barred(c) && !(c == '\r' || c == '"' || c == '\'')
 }
 
-/// A need with that of a character between these two, where it is of the kind.
+/// A need, with that of one more character between these two added, if `kind` says that the character is of the kind.
 fn need_with(
     table: &Table,
     told: &EntityFacts,
@@ -125,7 +125,7 @@ fn need_with(
     }
 }
 
-/// What characters need, with one more between the previous one and the rest of the value.
+/// The needs, with those of one more character between the previous one and the rest of the value added.
 fn needs_with(
     table: &Table,
     told: &EntityFacts,
@@ -148,7 +148,8 @@ fn needs_with(
     }
 }
 
-/// The need for quotes of either kind, with that of a character between the previous one and the rest of the value.
+/// The need for quotes of either kind, with that of one more character between the previous one and the rest of the
+/// value added.
 fn other_with(
     table: &Table,
     told: &EntityFacts,
@@ -174,8 +175,8 @@ fn has_quotes(bytes: &[u8]) -> bool
     memchr2(b'"', b'\'', bytes).is_some()
 }
 
-/// Whether the byte is known to be that of a character that may stand without quotes, as those of letters and digits are. Two
-/// ranges tell it.
+/// Whether the byte is known to be that of a character that is allowed without quotes, as those of letters and digits
+/// are. Two comparisons decide it.
 #[inline(always)]
 #[tactic(auto, unfolding(hm_spelling_spec::specs::Characters::is_barred, hm_base::specs::Bytes::is_space))]
 fn is_clear(byte: u8) -> bool
@@ -184,8 +185,8 @@ fn is_clear(byte: u8) -> bool
     (byte > b'>' && byte != b'`') || (byte > b'\'' && byte < b'<')
 }
 
-/// Whether the byte is that of a character that may not stand without quotes. One look tells it of small letters, of which most
-/// values are made.
+/// Whether the byte is that of a character that isn't allowed without quotes. One comparison decides it for small
+/// letters, of which most values are made.
 #[inline(always)]
 #[tactic(auto, unfolding(hm_spelling_spec::specs::Characters::is_barred, hm_base::specs::Bytes::is_space))]
 fn is_barred_byte(byte: u8) -> bool
@@ -194,7 +195,7 @@ fn is_barred_byte(byte: u8) -> bool
     byte <= b'`' && !is_clear(byte) && is_barred(byte as char)
 }
 
-/// Whether some byte is that of a character that may not stand without quotes.
+/// Whether some byte is that of a character that isn't allowed without quotes.
 fn has_barred(bytes: &[u8]) -> bool
     ensures { result ≡ list_any spots.is_barred bytes.now }
 {
@@ -206,14 +207,14 @@ fn has_barred(bytes: &[u8]) -> bool
     false
 }
 
-/// What characters need that need nothing.
+/// The needs of a value whose characters need nothing.
 const NO_NEEDS: Needs = Needs {
     double: Need::Absent,
     single: Need::Absent,
     other: Need::Absent,
 };
 
-/// What the characters of a value need, one after the other.
+/// What the characters of a value need, taken one after the other.
 fn needs_along(table: &Table, told: &EntityFacts, value: &str) -> Needs
     requires { AreTold table.now.entries told.now }
     ensures { result ≡ units.needs_of table.now.entries (chars value.now) }
@@ -233,8 +234,8 @@ fn needs_along(table: &Table, told: &EntityFacts, value: &str) -> Needs
     needs
 }
 
-/// What the characters of a value need that stand as themselves in quotes of either kind. Most often the first one that needs quotes
-/// has dear references, and the rest isn't looked at.
+/// What the characters of a value need that are written as themselves in quotes of either kind. Most often the first
+/// one that needs quotes has costly references, and the rest isn't looked at.
 fn other_along(table: &Table, told: &EntityFacts, value: &str) -> Need
     requires { AreTold table.now.entries told.now }
     ensures { result ≡ units.need_for table.now.entries units.needs_quotes (chars value.now) }
@@ -257,7 +258,7 @@ fn other_along(table: &Table, told: &EntityFacts, value: &str) -> Need
     need
 }
 
-/// What the characters of a value need of which none is a quote.
+/// What the characters of a value without quotes in it need.
 fn needs_without_quotes(table: &Table, told: &EntityFacts, value: &str) -> Needs
     requires told { AreTold table.now.entries told.now }
     requires none { list_any is_quote value.now ≡ false }
@@ -270,7 +271,8 @@ fn needs_without_quotes(table: &Table, told: &EntityFacts, value: &str) -> Needs
     }
 }
 
-/// What the characters of a value need. Most need nothing, as one look at the bytes tells, and few have quotes.
+/// What the characters of a value need. Most need nothing, which one pass over the bytes shows, and few values hold
+/// quotes.
 pub(crate) fn needs_of(table: &Table, told: &EntityFacts, value: &str) -> Needs
     requires { AreTold table.now.entries told.now }
     ensures { result ≡ units.needs_of table.now.entries (chars value.now) }

@@ -17,14 +17,14 @@ use hm_refs::Table;
 
 /// A visitor that is called for each step while a graph is built.
 pub trait Visitor: Drop {
-    /// Why it stops.
+    /// The error with which it stops.
     type Stop: From<OutOfMemory> + Drop;
 
-    // whether it goes on over these units and their steps up to the last layer, by the names of a table, and ends as the first
-    // visitor is
+    // Whether the visitor, which is the last argument, ends as the first argument once it has taken these units and their
+    // steps up to the last layer, by the names of a table.
     ghost goes_on: { Self → List Entry → List units.Unit → List Hops → Self → Type 0 };
 
-    /// Takes the step of a unit with these bytes of its own.
+    /// Takes the step of a unit that has these bytes of its own.
     fn take(&mut self, table: &Table, step: &Step, own: UnitText) -> Result<(), Self::Stop>
         requires named { IsNamedStep table.now.entries step.now }
         requires low { IsLowStep step.now }

@@ -15,7 +15,7 @@ stands form c = not (c == 13) && may_stand_in (value_spot form) c
 abbrev pub covers : Where → Where → List ℕ → Bool
 covers form other v = list_all (λ c. stands form c || not (stands other c)) v
 
--- ---- Characters whose references are dear
+-- ---- Characters whose references are costly
 
 -- LF, FF, SPACE, quotes, '<', '=', '>' and the grave accent: the best number of each has four bytes or more. (TAB has `&#9`.)
 abbrev pub may_be_costly : ℕ → Bool
@@ -47,7 +47,7 @@ may_leave_open t (Some c) = list_any (leaves_open c) t
 abbrev pub is_costly : List Entry → Option ℕ → ℕ → Option ℕ → Bool
 is_costly t previous c next = may_be_costly c && (not (list_any (makes_cheap c next) t) && not (c == 61 && may_leave_open t previous))
 
--- whether a dear character of the value may stand as itself in this form, and not in the other
+-- whether a costly character of the value may be written as itself in this form, and not in the other
 abbrev pub gains_after : List Entry → Where → Where → Option ℕ → List ℕ → Bool
 gains_after t form other previous [] = false
 gains_after t form other previous (c ∷ v) = (stands form c && (not (stands other c) && is_costly t previous c (next_of v))) || gains_after t form other (Some c) v
@@ -57,7 +57,7 @@ gains t form other v = gains_after t form other None v
 
 -- ---- How many bytes
 
--- A value without quotes is spared the closing one, but a gap after it may have a byte more. So in place of the form without
+-- A value without quotes saves the closing one, but a gap after it may have a byte more. So in place of the form without
 -- quotes each form takes at most one byte more, and in place of a form in quotes none.
 abbrev pub added : Where → ℕ
 added in_unquoted = 1

@@ -25,8 +25,8 @@ least_prices es (unit ∷ units) states = map (least es (unit ∷ units)) states
 
 -- ---- Prices that show a bound by themselves
 
--- A price keeps the rule at an edge: a number is at most the edge's length plus the price at the edge's end. A closed price
--- at the end bounds nothing, and where a price is closed, so is the price at the end.
+-- A price keeps the rule at an edge: a number is at most the edge's length plus the price at the edge's end. An infinite
+-- price at the end bounds nothing, and if a price is infinite, so is the price at the end.
 abbrev pub KeepsEdge : Option ℕ → ℕ → Option ℕ → Type 0
 KeepsEdge price n None = Prim.Unit {0}
 KeepsEdge None n (Some b) = ⊥

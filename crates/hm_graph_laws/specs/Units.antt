@@ -81,7 +81,7 @@ abbrev pub is_after_start : Previous → Bool
 is_after_start (Some (start n foreign attributes)) = true
 is_after_start previous = false
 
--- the line feed that isn't read, where one is due
+-- the line feed that isn't read, if one is needed
 abbrev pub line_feed_units : Previous → List Element → List ℕ → List Unit
 line_feed_units previous path cs = if wants_line_feed (if is_after_start previous then opening else other) path cs then fixed (10 ∷ []) ∷ [] else []
 

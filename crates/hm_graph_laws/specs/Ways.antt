@@ -15,9 +15,9 @@ abbrev pub Way : Edges → List Unit → State → List ℕ → Type 0
 Way es [] from b = b ≡ []
 Way es (unit ∷ units) from b = (e : Edge) × IsIn e (es unit from) × ((rest : List ℕ) × (b ≡ e.bytes ++ rest) × Way es units e.to rest)
 
--- ---- Prices (potentials: the cost to go): a number of bytes up to the end, or None (closed) where there is no way
+-- ---- Prices (potentials: the cost to go): a number of bytes up to the end, or None (infinite) if there is no way
 
--- the lesser price, where a closed one is greater than each number
+-- the lesser price; an infinite one is greater than each number
 abbrev pub lesser : Option ℕ → Option ℕ → Option ℕ
 lesser None b = b
 lesser (Some a) None = Some a
@@ -32,7 +32,7 @@ abbrev pub best : (State → Option ℕ) → List Edge → Option ℕ
 best after [] = None
 best after (e ∷ es) = lesser (over (edge_length e) (after e.to)) (best after es)
 
--- the least number of bytes of a way from a state to the end, closed where there is none
+-- the least number of bytes of a way from a state to the end, infinite if there is none
 abbrev pub least : Edges → List Unit → State → Option ℕ
 least es [] from = Some 0
 least es (unit ∷ units) from = best (least es units) (es unit from)

@@ -1,5 +1,5 @@
-//! What the layered graph of the spellings of a tree is: its units, states and edges, its paths and prices. Definitions and laws
-//! alone; nothing runs.
+//! The layered graph of the spellings of a tree: its units, states and edges, its ways and prices. Only definitions and
+//! laws; nothing runs.
 #![tactic(auto)]
 
 pub mod attributes;

@@ -1,7 +1,7 @@
-//! Compares the table that stands in the program with the one that `entities.json` gives, and prints how many names they have and
-//! how many differ.
+//! Compares the program's built-in table with the one that `entities.json` gives, and prints how many names they have
+//! and how many differ.
 //!
-//! It goes over all characters and compares the names that begin with each, their bytes and their code points, and whether the
+//! It compares for each character the names that start with it, their bytes and their code points, and whether the
 //! character is plain. Each name is also looked up by its node, and as the longest one of a text.
 #![tactic(auto)]
 
@@ -12,7 +12,7 @@ use hm_refs::{NameId, Table};
 use std::alloc::Global;
 use std::{fs, io};
 
-/// What was compared so far.
+/// What was compared up to here.
 #[derive(Drop)]
 struct Counts {
     names: u32,
@@ -20,6 +20,7 @@ struct Counts {
 }
 
 impl Counts {
+    /// Counts one more comparison.
     fn take(&mut self, is_alike: bool) {
         self.names = self.names.saturating_add(1);
         if !is_alike {
@@ -28,7 +29,7 @@ impl Counts {
     }
 }
 
-/// The node of a name gives that name, and so does the text of the name with a byte more.
+/// Whether the node of a name gives that name, and so does the text of the name with one byte more.
 fn is_found(alloc: Global, table: &Table, id: NameId) -> io::Result<bool>
     requires { id < length table.now.entries }
 {
@@ -39,7 +40,7 @@ fn is_found(alloc: Global, table: &Table, id: NameId) -> io::Result<bool>
     Ok(by_node == Some(id) && by_text == Some(id))
 }
 
-/// Compares the names that begin with a character.
+/// Compares the names that start with a character.
 fn compare(
     alloc: Global,
     ready: &Table,
@@ -64,6 +65,7 @@ fn compare(
     Ok(())
 }
 
+/// Compares the two tables and prints the counts.
 fn main(rt: HostRuntime) -> io::Result<()> {
     let alloc = rt.alloc();
     let text = fs::read(&rt, "entities.json")?;

@@ -1,4 +1,4 @@
-//! A page that is loaded to be explained.
+//! Loads a page that is to be explained.
 ghost use Rattle.std.specs.Prelude.{◌≡◌, ◌⊎◌, ◌≤◌, IfOk, IfErr, Err, true};
 ghost use Rattle.hm_page_loading.specs.Pages.{IsRefusedAs};
 ghost use Rattle.hm_fragment.specs.Trees.{built};
@@ -20,15 +20,15 @@ use hm_store::{Store, load};
 use hm_tree::Tree;
 use std::alloc::Global;
 
-/// What there is of a page: its tree with a table, or why it is refused.
+/// What was found of a page: its tree with a table, or why it is refused.
 #[derive(Drop)]
 pub enum Found {
     Tree { input: Input },
-    /// The page is refused, at a byte of it. Of a page that is too long one byte more than its limit is there.
+    /// The page is refused, at byte `at` of it. If it is too long, `page` has one byte more than the limit.
     Refused { page: Vec<u8>, rule: Rule, at: u32 },
 }
 
-/// The tree of a page, or why it is refused. Its bytes are freed.
+/// Reads the tree of a page, or finds why it is refused. Its bytes are freed.
 fn parse_page(alloc: Global, page: Vec<u8>, table: &Table) -> Result<Tree, Refused>
     ensures built { IfOk result (λ tree. page_outcome table.now.entries page.items ≡ built tree) }
     ensures settled { IfOk result (λ tree. Settled tree) }
@@ -40,7 +40,7 @@ fn parse_page(alloc: Global, page: Vec<u8>, table: &Table) -> Result<Tree, Refus
     }
 }
 
-/// What is found of a page that is refused, of which these bytes are kept.
+/// The answer for a page that is refused, with the bytes of it that are kept.
 fn refused_found(page: Vec<u8>, refused: Refused) -> Result<Found, InputFault>
     ensures ok { IfOk result (IsRefusalFound page.items refused) }
     ensures err { IfErr result (λ unread. unread ≡ InputFault.OutOfMemory) }
@@ -51,7 +51,8 @@ fn refused_found(page: Vec<u8>, refused: Refused) -> Result<Found, InputFault>
     }
 }
 
-/// Loads a table and then a page, once, and keeps the page where it is refused. The tables `none` and `html` are no files.
+/// Loads a table and then a page, each once, and keeps the page if it is refused. The tables `none` and `html` are no
+/// files.
 pub fn load_explained<S: Store>(
     alloc: Global,
     store: &mut S,

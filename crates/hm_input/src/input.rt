@@ -1,4 +1,4 @@
-//! A table of names with the tree that was read with it, after the rewrites.
+//! A table of names and the tree that was read with it, after the rewrites.
 ghost use Rattle.std.specs.Prelude.{◌≡◌, ◌⊎◌, ◌≤◌, IfOk, IfErr, Err, true};
 ghost use Rattle.hm_elements.specs.Settled.{Settled};
 ghost use Rattle.hm_store.specs.Causes.{Rose};
@@ -23,7 +23,7 @@ use std::alloc::Global;
 /// A table of names, and a tree that was read with it.
 #[derive(Drop)]
 pub struct Input {
-    /// How many bytes the page has, or the JSON.
+    /// The size of the page, or of the JSON, in bytes.
     pub bytes: usize,
     pub table: Table,
     pub tree: Tree,
@@ -41,7 +41,7 @@ fn table_of<'w>(origin: &Origin<'w>) -> &'w str
     }
 }
 
-/// The tree that an origin gives with the names of its table, and how many bytes its page has, or its JSON.
+/// The tree that an origin gives with the names of its table, and the size of its page, or of its JSON, in bytes.
 fn load_origin<S: Store>(
     alloc: Global,
     store: &mut S,
@@ -64,7 +64,7 @@ fn load_origin<S: Store>(
     }
 }
 
-/// The same tree after the rewrites that are asked for.
+/// The same tree after the rewrites of the request.
 #[inline(always)]
 fn load_rewritten<S: Store>(
     alloc: Global,
@@ -90,8 +90,8 @@ fn load_rewritten<S: Store>(
     }
 }
 
-/// What the files of an origin give: a table with a tree after the rewrites that are asked for. The table is loaded first, and the
-/// tables `none` and `html` are no files. The tree of a page is built while the page comes.
+/// What the files of an origin give: a table and a tree after the rewrites of the request. The table is loaded first,
+/// and the tables `none` and `html` are no files. The tree of a page is built while the page is read.
 pub fn load_input<S: Store>(
     alloc: Global,
     store: &mut S,

@@ -1,4 +1,5 @@
-//! What a run reads: a table of names with the tree of a page, of a fragment, of JSON or of a number, or why there is none.
+//! What a run reads: a table of names and the tree of a page, of a fragment, of JSON or of a number, or why there is
+//! none.
 #![tactic(auto)]
 
 mod explained;

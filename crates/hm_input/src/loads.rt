@@ -1,4 +1,5 @@
-//! What is read of a store: a table, a page, a fragment, a tree as JSON; and the tree of a page that is made.
+//! What is read from a store: a table, a page, a fragment, a tree as JSON. Also the tree of a page that `measure`
+//! makes.
 ghost use Rattle.std.specs.Io.{StartsWith};
 ghost use Rattle.std.specs.Prelude.{length, ◌≡◌, ◌≢◌, ◌⊎◌, ◌≤◌, ℕ, List, Option, IfOk, IfErr, OnOk, Ok, Err, false};
 ghost use Rattle.hm_base.specs.Faults.{HasText, IsRefusedBy};
@@ -27,7 +28,7 @@ use hm_store::{Store, load, load_with_prefix};
 use hm_tree::Tree;
 use std::alloc::Global;
 
-/// Why there is no table with this fault.
+/// The error for a table with this fault.
 fn unread_table(fault: TableFault) -> InputFault
     ensures other { result ≢ InputFault.Store }
     ensures reason { (told : Option FileMap) (name : List ℕ) → (fault ≢ TableFault.OutOfMemory → IsTableOf told name (Err fault)) → NoTable told name result }
@@ -38,7 +39,8 @@ fn unread_table(fault: TableFault) -> InputFault
     }
 }
 
-/// The table of that name: `none` is the one without names, `html` that of the HTML Standard, and neither is a file.
+/// Loads the table of that name: `none` is the one without names, `html` that of the HTML Standard, and neither is a
+/// file.
 pub fn load_table<S: Store>(alloc: Global, store: &mut S, name: &str) -> Result<Table, InputFault>
     ensures same { S.files store.new ≡ S.files store.old }
     ensures writing { S.is_writing store.new ≡ S.is_writing store.old }
@@ -62,7 +64,7 @@ pub fn load_table<S: Store>(alloc: Global, store: &mut S, name: &str) -> Result<
     }
 }
 
-/// The text of the bytes of a page, which may be up to the limit.
+/// The text of a page's bytes. A page may be as long as the limit.
 fn read_page(alloc: Global, bytes: Vec<u8>) -> Result<SourceText, TextFault>
     ensures read { IfOk result (λ text. text ≡ source_of bytes.items) }
     ensures sound { OnOk result (HasText PAGE_LIMIT bytes.items) }
@@ -71,7 +73,7 @@ fn read_page(alloc: Global, bytes: Vec<u8>) -> Result<SourceText, TextFault>
     SourceText::take(alloc, bytes, PAGE_LIMIT)
 }
 
-/// The text of a page and how many bytes the page has, or why it is refused.
+/// The text of a page and its size in bytes, or why it is refused.
 fn text_of(alloc: Global, page: Vec<u8>) -> Result<(SourceText, usize), InputFault>
     ensures ok { IfOk result (λ read. IsPageText page.items read.0 read.1) }
     ensures err { IfErr result (NoTextIn page.items) }
@@ -83,7 +85,7 @@ fn text_of(alloc: Global, page: Vec<u8>) -> Result<(SourceText, usize), InputFau
     }
 }
 
-/// The text of the page of a number, with `size` blocks, and how many bytes the page has.
+/// The text of the page with `size` blocks that `measure` makes from a number, and its size in bytes.
 fn make_text(alloc: Global, number: u32, size: u32) -> Result<(SourceText, usize), InputFault>
     ensures ok { IfOk result (λ read. IsPageText (made_page number size) read.0 read.1) }
     ensures err { IfErr result (NoTextIn (made_page number size)) }
@@ -92,7 +94,7 @@ fn make_text(alloc: Global, number: u32, size: u32) -> Result<(SourceText, usize
     text_of(alloc, page.into_bytes())
 }
 
-/// The tree of a page's text, whose memory is freed.
+/// The tree of a page's text. The text's memory is freed.
 #[inline(always)]
 fn text_tree(alloc: Global, text: SourceText, table: &Table) -> Result<Tree, Refused>
     ensures built { IfOk result (λ tree. tree_of_source table.now.entries text ≡ built tree) }
@@ -104,7 +106,7 @@ fn text_tree(alloc: Global, text: SourceText, table: &Table) -> Result<Tree, Ref
     parsed
 }
 
-/// The tree of the page of a number, with `size` blocks, and how many bytes the page has.
+/// The tree of the page with `size` blocks that `measure` makes from a number, and the page's size in bytes.
 pub fn make_tree(
     alloc: Global,
     number: u32,
@@ -125,7 +127,7 @@ pub fn make_tree(
     }
 }
 
-/// The tree of the page of that name, and how many bytes the page has.
+/// Loads the tree of the page of that name, and the page's size in bytes.
 pub fn load_page_tree<S: Store>(
     alloc: Global,
     store: &mut S,
@@ -146,7 +148,7 @@ pub fn load_page_tree<S: Store>(
     }
 }
 
-/// The tree of a fragment after its front, or why it is refused.
+/// The tree of a fragment from a page with `front()` before it, or why it is refused.
 fn fragment_tree_of(alloc: Global, page: Vec<u8>, table: &Table) -> Result<Tree, InputFault>
     requires front { StartsWith page.items frames.front }
     requires short { length page.items ≤ OUTPUT_LIMIT }
@@ -158,7 +160,7 @@ fn fragment_tree_of(alloc: Global, page: Vec<u8>, table: &Table) -> Result<Tree,
     Ok(tree)
 }
 
-/// The tree of the fragment of that name, and how many bytes the fragment has.
+/// Loads the tree of the fragment of that name, and the fragment's size in bytes.
 pub fn load_fragment<S: Store>(
     alloc: Global,
     store: &mut S,
@@ -185,7 +187,7 @@ pub fn load_fragment<S: Store>(
     Ok((tree, bytes))
 }
 
-/// Why there is no tree with this fault of its JSON.
+/// The error for JSON with this fault.
 fn unread_json(fault: JsonFault) -> InputFault
     ensures other { result ≢ InputFault.Store }
     ensures reason { (told : Option FileMap) (name : List ℕ) → (fault ≢ JsonFault.OutOfMemory → IsRefusedJson told name fault) → NoWalk told name result }
@@ -196,7 +198,7 @@ fn unread_json(fault: JsonFault) -> InputFault
     }
 }
 
-/// The tree for which the JSON of that name stands, and how many bytes the JSON has.
+/// Loads the tree from the JSON file of that name, and the size of the JSON in bytes.
 pub fn load_json<S: Store>(
     alloc: Global,
     store: &mut S,

@@ -1,4 +1,4 @@
-//! Why there is no tree.
+//! Errors of reading the input.
 use hm_base::{OutOfMemory, Refused, Rule};
 use hm_json_tree::JsonFault;
 use hm_page_loading::PageLoadFault;
@@ -10,13 +10,13 @@ use hm_store::LoadFault;
 pub enum InputFault {
     /// The table is refused.
     Table { fault: TableFault },
-    /// The page is refused, at a byte of it.
+    /// The page is refused, at byte `at` of it.
     Page { rule: Rule, at: u32 },
-    /// The JSON stands for no tree.
+    /// The JSON is that of no tree.
     Json { fault: JsonFault },
-    /// A call on the store has failed, or a file isn't there.
+    /// A call on the store failed, or a file isn't there.
     Store,
-    /// Memory was refused.
+    /// No memory could be allocated.
     OutOfMemory,
 }
 

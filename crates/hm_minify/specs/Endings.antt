@@ -58,8 +58,8 @@ is_fault answer = false
 
 -- ---- What an input gives
 
--- a tree is worked on with its table of names, and with how many bytes its page has; else the first reason why there is none is said,
--- and of a page that is refused what is told of it
+-- a tree is worked on with its table of names, and with how many bytes its page has; else the first reason why there is none is
+-- printed, and for a refused page its line or its explanation
 abbrev pub with_tree : Input → (Rule → ℕ → List ℕ) → (ℕ → List Entry → List Event → Ending) → Ending
 with_tree missing told work = store_fault
 with_tree (bad_table fault) told work = says status.TableRefused (table_line fault)
@@ -67,7 +67,7 @@ with_tree (bad_page rule at) told work = says status.PageRefused (told rule at)
 with_tree (bad_json fault) told work = says status.JsonRefused (json_line fault)
 with_tree (tree_input bytes t w) told work = work bytes t w
 
--- ---- What is told of a page that is refused
+-- ---- What is printed of a refused page
 
 -- the name of the file of a page; a page that is made has none
 abbrev pub page_name : Origin → List ℕ
@@ -103,7 +103,7 @@ abbrev pub format_of : Bool → Format
 format_of false = Compact
 format_of true = Sparse
 
--- what of a text is written: all of it, or what stands after the front of a fragment
+-- the part of a text that is written: all of it, or the rest after the front of a fragment
 abbrev pub written_part : Bool → List ℕ → List ℕ
 written_part false text = text
 written_part true text = unframed text
@@ -134,7 +134,7 @@ fragment_limit = OUTPUT_LIMIT - length front
 unfoldable pub out_fragment : List Entry → List ℕ → Outcome
 out_fragment t out = if nat_lt fragment_limit (length out) then refused_by rules.TooLong fragment_limit else fragment_tree t out
 
--- what a check finds of a fragment after its front is said in bytes of the fragment, where that is one
+-- the verdict on a fragment after its front is printed in bytes of the fragment, if it is one
 abbrev pub fragment_ending : Verdict → Outcome → Ending
 fragment_ending found (refused_by rule at) = says status.No (why_line (OutRefused rule at))
 fragment_ending (Yes n) (built v) = says status.Done (yes_line (n - length front))

@@ -1,4 +1,4 @@
--- What a run has done: what stands after it, and why.
+-- What a run has done: the files and the output after it, and why.
 use Rattle.std.specs.Prelude.{ℕ, ◌≡◌, ◌≤◌, ◌⊎◌, true, false, List, length, [], ◌∷◌, ◌++◌, Option, Some}
 use Rattle.std.specs.Io.KnownBytes.{append_known}
 use Rattle.hm_base.specs.Walks.{Event}
@@ -185,7 +185,7 @@ pub record HasShown (request : Asked) (before after : Outside) : Type 0 where
   pub files : after.files ≡ before.files
   pub lines : Prints (dump_of tree) before after
 
--- the files give a tree, whose JSON is told
+-- the files give a tree, and its JSON is printed
 pub record HasToldJson (request : Asked) (before after : Outside) : Type 0 where
   pub seen : Contents
   pub are_told : AreTold before.files seen

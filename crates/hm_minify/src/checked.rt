@@ -1,4 +1,4 @@
-//! A text and a certificate, loaded and checked.
+//! Loads a text and a certificate, and checks them.
 ghost use Rattle.std.specs.Io.{StartsWith};
 ghost use Rattle.std.specs.Prelude as prelude;
 ghost use Rattle.std.specs.Prelude.{◌≡◌, ◌≢◌, ◌⊎◌, ◌≤◌, ◌-◌, IfOk, IsTrue, Err, false, true, bytes_eq, string_bytes};
@@ -26,7 +26,7 @@ use hm_refs::laws::every_table;
 use hm_store::{Store, load, load_over, load_with_prefix};
 use std::alloc::Global;
 
-/// What was found is said.
+/// The ending with the line for a verdict.
 fn say<'w>(alloc: Global, found: Verdict) -> Result<RunEnd<'w>, Stop>
     ensures ended { IfOk result (λ ended. ended ≡ spec.verdict_ending found) }
     ensures memory { result ≢ Err Stop.Store }
@@ -37,7 +37,7 @@ fn say<'w>(alloc: Global, found: Verdict) -> Result<RunEnd<'w>, Stop>
     }
 }
 
-/// What is found of a text and a certificate is said.
+/// Checks a text and a certificate, and gives the ending with the line for the verdict.
 fn find<'w>(
     alloc: Global,
     input: &Input,
@@ -56,22 +56,22 @@ fn find<'w>(
     )
 }
 
-/// Whether a certificate begins as a sparse one by these rules does.
+/// Whether a certificate starts as a sparse one by these rules does.
 fn begins_sparse(alloc: Global, rules: SpellRules, cert: &[u8]) -> bool {
     let mut head = Vec::new(alloc);
     put_head(&mut head, Format::Sparse, rules).is_ok() && cert.starts_with(head.as_slice())
 }
 
-/// Whether the bytes are the same.
+/// Whether the bytes are equal.
 fn same_bytes(left: &[u8], right: &[u8]) -> bool
     ensures { IsTrue result → left.now ≡ right.now }
 {
     left == right
 }
 
-/// What is written of the tree by these rules, and true, where it is within the limit and the bytes of a certificate are a sparse one,
-/// within its limit too, and the one that is written with it. A check of both says yes then, and they needn't be read. Else no text,
-/// and false.
+/// Writes the tree by these rules, and compares the sparse certificate of that with `cert`. If they are equal and both
+/// text and certificate are within their limits, gives the text and true: a check of both would say yes, and they
+/// needn't be read. Else gives no text and false.
 fn rewritten(alloc: Global, input: &Input, rules: SpellRules, cert: &[u8]) -> (Vec<u8>, bool)
     requires page { rules.frame ≡ false }
     requires settled { Settled input.now.tree }
@@ -91,7 +91,7 @@ fn rewritten(alloc: Global, input: &Input, rules: SpellRules, cert: &[u8]) -> (V
     }
 }
 
-/// A text and the bytes of a certificate are checked. Where it is known that the check says yes, they aren't read.
+/// Checks a text and the bytes of a certificate. If they are what is written of the tree, they aren't read.
 fn check_bytes<'w>(
     alloc: Global,
     input: &Input,
@@ -119,8 +119,8 @@ fn check_bytes<'w>(
     }
 }
 
-/// Loads a certificate and then a text, and checks them. Of a longer file no more than one byte above the limit is loaded. The text is
-/// loaded over the one that it is expected to be.
+/// Loads a certificate and then a text, and checks them. Of a file above its limit at most one byte more than the limit
+/// is loaded. The text is loaded into the memory of the one that is expected.
 fn check_page<'w, S: Store>(
     alloc: Global,
     store: &mut S,
@@ -153,21 +153,21 @@ fn check_page<'w, S: Store>(
     )
 }
 
-/// The most bytes of a fragment that is checked: with its front it has no more than a text may have.
+/// The most bytes of a fragment that is checked: with `front()` before it, it is as long as a text may be.
 fn fragment_limit() -> u32
     ensures { result ≡ spec.fragment_limit }
 {
     OUTPUT_LIMIT - front().len() as u32
 }
 
-/// The bytes of a text, less those of its front.
+/// The length of a text in bytes, without `front()`.
 fn without_front(length: u64) -> u64
     ensures { result ≡ length - prelude.length frames.front }
 {
     length.saturating_sub(front().len() as u64)
 }
 
-/// Whether it is found that the rules differ.
+/// Whether the verdict is that the rules differ.
 fn rules_differ(found: &Verdict) -> bool
     ensures { result ≡ spec.rules_differ found.now }
 {
@@ -179,7 +179,7 @@ fn rules_differ(found: &Verdict) -> bool
     }
 }
 
-/// A fragment that is refused is told.
+/// The line for a refused fragment.
 fn say_refused<'w>(alloc: Global, rule: Rule, at: u32) -> Result<RunEnd<'w>, Stop>
     ensures ended { IfOk result (λ ended. ended ≡ spec.says Status.No (lines.why_line (Why.OutRefused rule at))) }
     ensures memory { result ≢ Err Stop.Store }
@@ -192,7 +192,7 @@ fn say_refused<'w>(alloc: Global, rule: Rule, at: u32) -> Result<RunEnd<'w>, Sto
     )
 }
 
-/// That a fragment is refused is said, whatever was found of it.
+/// The line for a refused fragment, whatever the check found.
 fn say_no_fragment<'w>(alloc: Global, refused: Refused) -> Result<RunEnd<'w>, Stop>
     ensures ended { IfOk result (λ ended. (found : Verdict) (o : Outcome) → IsRefusedAs o refused → ended ≡ spec.fragment_ending found o) }
     ensures memory { result ≢ Err Stop.Store }
@@ -203,7 +203,8 @@ fn say_no_fragment<'w>(alloc: Global, refused: Refused) -> Result<RunEnd<'w>, St
     }
 }
 
-/// What was found of a fragment after its front is said in bytes of the fragment, where it is one.
+/// The line for the verdict on a fragment with `front()` before it, in bytes of the fragment. If it isn't a fragment,
+/// the line says that it is refused.
 fn say_fragment<'w>(
     alloc: Global,
     found: Verdict,
@@ -231,7 +232,8 @@ fn say_fragment<'w>(
     }
 }
 
-/// What is found of a fragment after its front and of a certificate is said. That the rules differ is said first.
+/// Checks a fragment with `front()` before it and a certificate. If the rules differ, the line says that, also for a
+/// refused fragment.
 fn find_fragment<'w>(
     alloc: Global,
     input: &Input,
@@ -260,7 +262,7 @@ fn find_fragment<'w>(
     }
 }
 
-/// A fragment after its front and the bytes of a certificate are checked.
+/// Checks a fragment with `front()` before it and the bytes of a certificate.
 fn check_fragment_bytes<'w>(
     alloc: Global,
     input: &Input,
@@ -284,7 +286,7 @@ fn check_fragment_bytes<'w>(
     }
 }
 
-/// Loads a certificate, and then a fragment after its front, and checks them.
+/// Loads a certificate, and then a fragment with `front()` before it, and checks them.
 fn check_fragment<'w, S: Store>(
     alloc: Global,
     store: &mut S,
@@ -309,7 +311,7 @@ fn check_fragment<'w, S: Store>(
     check_fragment_bytes(alloc, input, rules, page, lines.as_slice())
 }
 
-/// Loads a certificate and then a text, or a fragment where the rules say so, and checks them.
+/// Loads a certificate and then a text, or a fragment if the rules say so, and checks them.
 pub fn check_files<'w, S: Store>(
     alloc: Global,
     store: &mut S,

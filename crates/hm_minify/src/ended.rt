@@ -1,4 +1,4 @@
-//! What a run is to end with, made in memory.
+//! How a run is to end, made in memory.
 ghost use Rattle.std.specs.Prelude.{◌≡◌, OnOk, OnErr, string_bytes};
 ghost use Rattle.std.specs.Io.KnownBytes.{append_known};
 ghost use Rattle.hm_store.specs.Causes.{HasCause};
@@ -14,13 +14,13 @@ use hm_store::{Failed, LoadFault, Sink};
 use std::alloc::{AllocError, AllocFailed, Global};
 use std::marker::Model;
 
-/// A file that is to be written, with its bytes.
+/// A file to write, with its bytes.
 #[derive(Drop)]
 pub struct Output<'w> {
     pub name: &'w str,
-    /// The bytes of the file, after `from` bytes that aren't written.
+    /// The bytes of the file, from byte `from` on. Those before it aren't written.
     pub bytes: Vec<u8>,
-    /// Where the file begins in `bytes`, in bytes.
+    /// The index in `bytes` at which the file starts.
     pub from: usize,
 }
 
@@ -38,8 +38,8 @@ impl<'w> Model for Output<'w> {
     ghost invariant = { λ o. o.from ≤ length o.bytes.items };
 }
 
-/// What is put to the sink: a line, or lines that hold any bytes, or the lines of a tree or its JSON, which never stand in memory
-/// together.
+/// What is written to the sink: a line, or lines of any bytes, or the lines of a tree or its JSON, of which only a part
+/// is in memory at a time.
 #[derive(Drop)]
 pub enum Printed {
     Line { line: String },
@@ -49,7 +49,7 @@ pub enum Printed {
 }
 
 impl Printed {
-    /// Puts it.
+    /// Writes it to the sink.
     pub fn put<O: Sink>(self, out: &mut O) -> Result<(), Failed>
         ensures ok { OnOk result (O.contents out.new ≡ append_known (O.contents out.old) (bytes_said self)) }
         ensures err { OnErr result (AppendsFront (O.contents out.old) (O.contents out.new) (bytes_said self)) }
@@ -64,7 +64,7 @@ impl Printed {
     }
 }
 
-/// How a run ends: its status, the line that says so, and the files that are to be written before, in their order.
+/// How a run ends: its status, the line that is printed, and the files that are written before that, in their order.
 #[derive(Drop)]
 pub struct RunEnd<'w> {
     pub status: Status,
@@ -85,7 +85,7 @@ impl<'w> Model for RunEnd<'w> {
     } };
 }
 
-/// A line is put, and nothing is written.
+/// Prints a line, and writes no file.
 pub fn says<'w>(alloc: Global, status: Status, line: String) -> RunEnd<'w>
     ensures { result ≡ spec.says status (string_bytes line) }
 {
@@ -96,7 +96,7 @@ pub fn says<'w>(alloc: Global, status: Status, line: String) -> RunEnd<'w>
     }
 }
 
-/// Lines that hold any bytes are put, and nothing is written.
+/// Prints lines of any bytes, and writes no file.
 pub fn says_lines<'w>(alloc: Global, status: Status, lines: Vec<u8>) -> RunEnd<'w>
     ensures { result ≡ spec.says status lines.items }
 {
@@ -107,7 +107,7 @@ pub fn says_lines<'w>(alloc: Global, status: Status, lines: Vec<u8>) -> RunEnd<'
     }
 }
 
-/// The lines of a tree are put, and nothing is written.
+/// Prints the lines of a tree, and writes no file.
 pub fn shows<'w>(alloc: Global, status: Status, shown: Shown) -> RunEnd<'w>
     ensures { result ≡ spec.says status shown }
 {
@@ -118,7 +118,7 @@ pub fn shows<'w>(alloc: Global, status: Status, shown: Shown) -> RunEnd<'w>
     }
 }
 
-/// The JSON of a tree is put, and nothing is written.
+/// Prints the JSON of a tree, and writes no file.
 pub fn tells_json<'w>(alloc: Global, status: Status, shown: JsonShown) -> RunEnd<'w>
     ensures { result ≡ spec.says status shown }
 {
@@ -129,12 +129,12 @@ pub fn tells_json<'w>(alloc: Global, status: Status, shown: JsonShown) -> RunEnd
     }
 }
 
-/// Why a run can't come to its ending.
+/// The errors that stop a run before its ending is known.
 #[derive(Clone, Copy, PartialEq, Eq)]
 pub enum Stop {
-    /// A call on the store has failed, or a file isn't there.
+    /// A call on the store failed, or a file isn't there.
     Store,
-    /// Memory was refused.
+    /// No memory could be allocated.
     OutOfMemory,
 }
 

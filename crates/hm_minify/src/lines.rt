@@ -1,4 +1,4 @@
-//! The line that a run puts to its sink.
+//! The lines that a run prints.
 ghost use Rattle.std.specs.Prelude.{◌≡◌, IfOk, string_bytes};
 ghost use Rattle.hm_minify.specs.Lines as spec;
 
@@ -8,21 +8,21 @@ use hm_json_tree::JsonFault;
 use hm_refs::TableFault;
 use std::alloc::{AllocError, Global};
 
-/// What is said of words without a meaning.
+/// The line for arguments without a meaning.
 pub const USAGE: &[u8] =
     b"usage: hminify minify, check, fragment, checkfragment or minifyjson TABLE PAGE OUT CERT, tree, json or explain TABLE PAGE, measure TABLE NUMBER SIZE, help, version\n";
 
-/// What is said where a call on the store has failed, or a file isn't there.
+/// The line if a call on the store failed, or a file isn't there.
 pub const STORE_FAULT: &[u8] = b"store fault\n";
 
-/// The line of a page that was minified to `length` bytes.
+/// The line for a page that was minified to `length` bytes.
 pub fn length_line(alloc: Global, length: usize) -> Result<String, AllocError>
     ensures { IfOk result (λ line. string_bytes line ≡ spec.length_line length) }
 {
     format!(in alloc; "length {length}\n")
 }
 
-/// The line of a page that is refused.
+/// The line for a page that is refused.
 pub fn refused_line(alloc: Global, rule: Rule, at: u32) -> Result<String, AllocError>
     ensures { IfOk result (λ line. string_bytes line ≡ spec.refused_line rule at) }
 {
@@ -30,7 +30,7 @@ pub fn refused_line(alloc: Global, rule: Rule, at: u32) -> Result<String, AllocE
     format!(in alloc; "page refused: {name} at {at}\n")
 }
 
-/// The line of JSON that stands for no tree.
+/// The line for JSON that isn't that of a tree.
 pub fn json_line(alloc: Global, fault: JsonFault) -> Result<String, AllocError>
     ensures { IfOk result (λ line. string_bytes line ≡ spec.json_line fault) }
 {
@@ -49,14 +49,15 @@ pub fn json_line(alloc: Global, fault: JsonFault) -> Result<String, AllocError>
     }
 }
 
-/// The line of a text of `length` bytes that is shown to be the shortest.
+/// The line for a text of `length` bytes that is shown to be the shortest.
 pub fn yes_line(alloc: Global, length: u64) -> Result<String, AllocError>
     ensures { IfOk result (λ line. string_bytes line ≡ spec.yes_line length) }
 {
     format!(in alloc; "yes {length}\n")
 }
 
-/// The line of a page of `page` bytes that is written shortest in `out`, over `layers` layers, and was checked.
+/// The line for a page of `page` bytes whose shortest text of `out` bytes, over `layers` layers, was written and
+/// checked.
 pub fn measured_line(
     alloc: Global,
     page: usize,
@@ -68,21 +69,21 @@ pub fn measured_line(
     format!(in alloc; "page {page} output {out} layers {layers} yes\n")
 }
 
-/// The line of a certificate with more bytes than the limit.
+/// The line for a certificate with more bytes than the limit.
 pub fn too_long_line(alloc: Global) -> Result<String, AllocError>
     ensures { IfOk result (λ line. string_bytes line ≡ spec.too_long_line) }
 {
     String::from_str(alloc, "no 0 certificate too long\n")
 }
 
-/// The line of a certificate of which a line is bad, counted from 1.
+/// The line for a certificate with a bad line. Lines are counted from 1.
 pub fn bad_line_line(alloc: Global, number: u32) -> Result<String, AllocError>
     ensures { IfOk result (λ line. string_bytes line ≡ spec.bad_line_line number) }
 {
     format!(in alloc; "no 0 certificate line {number}\n")
 }
 
-/// A price or a bound; `-` where there is none.
+/// A price or a bound as it is printed: `-` if there is none.
 fn price_word(alloc: Global, price: Option<u64>) -> Result<String, AllocError>
     ensures { IfOk result (λ word. string_bytes word ≡ spec.price_word price) }
 {
@@ -92,7 +93,7 @@ fn price_word(alloc: Global, price: Option<u64>) -> Result<String, AllocError>
     }
 }
 
-/// The line of a price above its bound.
+/// The line for a price above its bound.
 fn too_high_line(
     alloc: Global,
     layer: u64,
@@ -108,7 +109,7 @@ fn too_high_line(
     format!(in alloc; "no 6 layer {layer} state {state}: price {price} above {bound}\n")
 }
 
-/// The line of the first condition that fails.
+/// The line for the first condition that fails.
 pub fn why_line(alloc: Global, why: Why) -> Result<String, AllocError>
     ensures { IfOk result (λ line. string_bytes line ≡ spec.why_line why) }
 {
@@ -135,7 +136,7 @@ pub fn why_line(alloc: Global, why: Why) -> Result<String, AllocError>
     }
 }
 
-/// The line of a table that is refused.
+/// The line for a table that is refused.
 pub fn table_line(alloc: Global, fault: &TableFault) -> Result<String, AllocError>
     ensures { IfOk result (λ line. string_bytes line ≡ spec.table_line fault.now) }
 {

@@ -1,4 +1,4 @@
-//! A tree, written shortest and checked in memory.
+//! Writes the shortest text of a tree and checks it in memory.
 ghost use Rattle.std.specs.Prelude.{◌≡◌, ◌≢◌, IfOk, Err, false};
 ghost use Rattle.hm_cert.specs.Certificate.{AreRows};
 ghost use Rattle.hm_elements.specs.Settled.{Settled};
@@ -19,8 +19,8 @@ use hm_refs::laws::every_table;
 use hm_words::Writing;
 use std::alloc::Global;
 
-/// Checks what was written of a tree: the check says yes. There is no other verdict; a text or a certificate above the limits of
-/// a check is refused as memory is.
+/// Checks what was written of a tree. The check says yes: no other verdict is possible. Fails with `OutOfMemory` if a
+/// text or a certificate is above the limits of a check.
 fn check_minified(
     alloc: Global,
     input: &Input,
@@ -56,7 +56,7 @@ fn check_minified(
     }
 }
 
-/// Writes the tree of an input shortest, and checks that. No file is written.
+/// Writes the shortest text of an input's tree, and checks it. No file is written.
 pub fn measure<'w>(alloc: Global, input: &Input, writing: Writing) -> Result<RunEnd<'w>, Stop>
     requires settled { Settled input.now.tree }
     ensures ended { IfOk result (λ ended. ended ≡ spec.measured_ending input.now.bytes writing input.now.table.entries input.now.tree) }

@@ -1,10 +1,10 @@
-//! What the program says of itself.
+//! What the program prints about itself.
 ghost use Rattle.std.specs.Prelude.{◌≡◌};
 ghost use Rattle.hm_minify.specs.Lines as spec;
 
 use hm_words::Notice;
 
-/// How the program is called.
+/// How to call the program.
 pub const HELP: &[u8] =
     b"hminify writes an HTML page as short as its rules allow, with a certificate.
 

@@ -1,32 +1,32 @@
-//! How a run ends.
+//! The exit statuses of a run.
 ghost use Rattle.std.specs.Prelude.{◌≡◌};
 ghost use Rattle.hm_minify.specs.Codes.{code_of};
 
 /// How a run ends.
 #[derive(Clone, Copy, PartialEq, Eq)]
 pub enum Status {
-    /// What the words ask for is done.
+    /// What the arguments ask for is done.
     Done,
     /// The certificate doesn't show that the text is the shortest.
     No,
-    /// The words have no meaning.
+    /// The arguments have no meaning.
     Usage,
     /// The page is refused.
     PageRefused,
     /// The table is refused.
     TableRefused,
-    /// A call on the store has failed, or a file isn't there.
+    /// A call on the store failed, or a file isn't there.
     StoreFault,
-    /// A call on the sink has failed.
+    /// A call on the sink failed.
     SinkFault,
-    /// Memory was refused.
+    /// No memory could be allocated.
     OutOfMemory,
     /// The JSON of a tree is refused.
     JsonRefused,
 }
 
 impl Status {
-    /// The number of the status, with which the program ends.
+    /// The exit status as a number.
     pub fn code(self) -> u8
         ensures { result ≡ code_of self }
     {

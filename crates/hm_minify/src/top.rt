@@ -1,4 +1,4 @@
-//! The top call.
+//! The top call of the program.
 ghost use Rattle.std.specs.Prelude.{◌≡◌, ◌≢◌, ◌⊎◌, Some, None, false, true, ℕ, List};
 ghost use Rattle.hm_store.specs.Contents.{Sees, Tells};
 ghost use Rattle.hm_store.specs.Files.{file_of};
@@ -24,7 +24,7 @@ use hm_store::{Failed, Sink, Store};
 use hm_words::{Asked, Notice, WordsFault, notice_in};
 use std::alloc::Global;
 
-/// Puts a line: the status that it says, or that the sink has failed.
+/// Prints a line. Gives `status`, or that the sink failed.
 fn put_line<O: Sink>(out: &mut O, line: &[u8], status: Status) -> Status
     ensures { spec.PutsBytes (O.faults out.old) (O.faults out.new) (O.contents out.old) (O.contents out.new) line.now status result }
 {
@@ -34,7 +34,7 @@ fn put_line<O: Sink>(out: &mut O, line: &[u8], status: Status) -> Status
     }
 }
 
-/// Puts what a run says: its answer, or that the sink has failed.
+/// Prints what a run has to print. Gives `answer`, or that the sink failed.
 fn put_said<O: Sink>(out: &mut O, said: Printed, answer: Status) -> Status
     ensures { spec.PutsBytes (O.faults out.old) (O.faults out.new) (O.contents out.old) (O.contents out.new) (bytes_said said) answer result }
 {
@@ -44,7 +44,7 @@ fn put_said<O: Sink>(out: &mut O, said: Printed, answer: Status) -> Status
     }
 }
 
-/// Writes the files, and then puts what is said.
+/// Writes the files, and then prints.
 fn finish<S: Store, O: Sink>(store: &mut S, out: &mut O, ended: RunEnd<'_>) -> Status
     ensures { Between S.Store O.Sink store.old out.old store.new out.new (spec.Finishes ended.entry result) }
 {
@@ -78,7 +78,7 @@ fn perform_asked<S: Store, O: Sink>(
     }
 }
 
-/// Does what the words ask for, step by step. A notice asks nothing of the store, and no memory.
+/// Does what the arguments ask for, step by step. A notice needs neither the store nor memory.
 fn perform<S: Store, O: Sink>(
     alloc: Global,
     words: &[OwnedText],
@@ -98,27 +98,30 @@ fn perform<S: Store, O: Sink>(
     }
 }
 
-/// Does what the words ask for, and puts one line to the sink, or the lines of a tree, its JSON, or those of a notice or an explanation.
+/// Does what the arguments ask for, and prints one line, or the lines of a tree, its JSON, or those of a notice or an
+/// explanation.
 pub fn run<S: Store, O: Sink>(
     alloc: Global,
     words: &[OwnedText],
     store: &mut S,
     out: &mut O,
 ) -> Status
-    // What the program says of itself asks nothing of the store, and no memory.
+    // A notice needs neither the store nor memory.
     ensures notice { (notice : Notice) → notice_by words.now ≡ Some notice → (store.new ≡ store.old) × ((result ≡ Status.Done) ⊎ (result ≡ Status.SinkFault))
         × (result ≡ Status.Done → Between S.Store O.Sink store.old out.old store.new out.new (Prints (notice_text notice))) }
 
-    // The words alone decide whether they have a meaning. Without one, nothing is asked of the store; memory may be refused first.
+    // Whether the arguments have a meaning depends on them alone. Without a meaning the store isn't used; the run may
+    // also end for lack of memory.
     ensures usage { result ≡ Status.Usage → (asked_by words.now ≡ None) × (notice_by words.now ≡ None) × (store.new ≡ store.old) × Between S.Store O.Sink store.old out.old store.new out.new (Prints usage_line) }
     ensures no_meaning { asked_by words.now ≡ None → notice_by words.now ≡ None → (store.new ≡ store.old) × ((result ≡ Status.Usage) ⊎ ((result ≡ Status.SinkFault) ⊎ (result ≡ Status.OutOfMemory))) }
 
-    // An answer is the ending that words and files give. Where no call has failed, there is nothing else but lack of memory.
+    // An answer is the ending that follows from the arguments and the files. If no call failed, the only other outcome
+    // is lack of memory.
     ensures answer { is_fault result ≡ false → Between S.Store O.Sink store.old out.old store.new out.new (spec.Ends words.now result) }
     ensures complete { Between S.Store O.Sink store.old out.old store.new out.new (λ before after.
         (StoreFails before after → ⊥) → (SinkFails before after → ⊥) → (result ≡ Status.OutOfMemory) ⊎ spec.Ends words.now result before after) }
 
-    // Where no call on the store has failed, all files of the ending are written. Always a prefix of them is, each
+    // If no call on the store failed, all files of the ending are written. In any case a prefix of them is, each
     // earlier one whole, and no other file is ever changed.
     ensures whole { Between S.Store O.Sink store.old out.old store.new out.new (λ before after.
         (StoreFails before after → ⊥) → result ≢ Status.OutOfMemory
@@ -129,39 +132,41 @@ pub fn run<S: Store, O: Sink>(
         (name : List ℕ) → request.has (endings.asked_outputs (asked_by words.now)) name ≡ false
         → file_of after.files name ≡ file_of before.files name) }
 
-    // A fault of the store: a call has failed, or a file isn't there. The sink has the line.
+    // A fault of the store: a call failed, or a file isn't there. The line for it is printed.
     ensures store_cause { result ≡ Status.StoreFault → Between S.Store O.Sink store.old out.old store.new out.new (λ before after.
         StoreFails before after ⊎ Tells before.files (λ seen. (ending words.now seen).status ≡ Status.StoreFault)) }
     ensures store_line { result ≡ Status.StoreFault → Between S.Store O.Sink store.old out.old store.new out.new (Prints store_line) }
 
-    // A fault of the sink: a call has failed, and a prefix of the line was put, that of the ending or that of a fault
-    // of the store.
+    // A fault of the sink: a call failed, and a prefix of the line was printed, either that of the ending or that of a
+    // fault of the store.
     ensures sink_cause { result ≡ Status.SinkFault → Between S.Store O.Sink store.old out.old store.new out.new SinkFails }
     ensures sink_front { result ≡ Status.SinkFault → Between S.Store O.Sink store.old out.old store.new out.new (λ before after.
         (StoreFails before after × PrintsFront store_line before after) ⊎ Sees before.files (λ seen. PrintsFront (ending words.now seen).line before after)) }
 
-    // Memory is refused only before a file is opened for writing.
+    // A run can lack memory only before a file is opened for writing.
     ensures memory { result ≡ Status.OutOfMemory → Between S.Store O.Sink store.old out.old store.new out.new (λ before after.
         (after.files ≡ before.files) × (after.printed ≡ before.printed) × (S.is_writing store.new ≡ S.is_writing store.old)) }
 
-    // The headline: the tree that is wanted is written shortest and certified.
+    // The headline: the text of the wanted tree is the shortest one and is certified.
     ensures minified { (asked : Request) (output cert : List ℕ) → asked_by words.now ≡ Some asked → request.is_fragment asked.origin ≡ false → asked.work ≡ request.minifies output cert
         → result ≡ Status.Done → Between S.Store O.Sink store.old out.old store.new out.new (spec.HasMinified asked output cert) }
 
-    // The same of a fragment: what is written is a fragment with the tree that is wanted, and no fragment that spells it is shorter.
+    // The same for a fragment: what is written is a fragment with the wanted tree, and no fragment that spells it is
+    // shorter.
     ensures fragment_minified { (asked : Request) (output cert : List ℕ) → asked_by words.now ≡ Some asked → request.is_fragment asked.origin ≡ true → asked.work ≡ request.minifies output cert
         → result ≡ Status.Done → Between S.Store O.Sink store.old out.old store.new out.new (spec.HasMinifiedFragment asked output cert) }
 
-    // The same of the walk that JSON stands for.
+    // The same for the tree of JSON.
     ensures json_minified { (asked : Request) (table json output cert : List ℕ) → asked_by words.now ≡ Some asked → asked.origin ≡ request.json_at table json → asked.work ≡ request.minifies output cert
         → result ≡ Status.Done → Between S.Store O.Sink store.old out.old store.new out.new (spec.HasMinifiedJson asked json output cert) }
 
-    // The tree that is worked on is settled, and what is written of it can be read: with it, the ending of the check on the same page is a yes (`laws::minified_is_checked`).
+    // The wanted tree is settled, and what is written of it can be read. So a check of that with the same page says yes
+    // (`laws::minified_is_checked`).
     ensures readable { (asked : Request) → asked_by words.now ≡ Some asked → result ≡ Status.Done
         → Sees (S.files store.old) (λ seen. endings.IsReadable asked (input_of asked seen)) }
 
-    // The checker's yes implies the bound, for text and prices from any source; a no comes with the first condition
-    // that fails.
+    // A yes of the checker implies the bound, for text and prices from any source. A no names the first condition that
+    // fails.
     ensures checked { (asked : Request) (output cert : List ℕ) → asked_by words.now ≡ Some asked → request.is_fragment asked.origin ≡ false → asked.work ≡ request.checks output cert
         → result ≡ Status.Done → Between S.Store O.Sink store.old out.old store.new out.new (spec.HasChecked asked output) }
     ensures fragment_checked { (asked : Request) (output cert : List ℕ) → asked_by words.now ≡ Some asked → request.is_fragment asked.origin ≡ true → asked.work ≡ request.checks output cert
@@ -169,29 +174,32 @@ pub fn run<S: Store, O: Sink>(
     ensures denied { (asked : Request) → asked_by words.now ≡ Some asked → result ≡ Status.No
         → Between S.Store O.Sink store.old out.old store.new out.new (spec.HasDenied asked) }
 
-    // The tree that is wanted is shown.
+    // The wanted tree is printed.
     ensures shown { (asked : Request) → asked_by words.now ≡ Some asked → asked.work ≡ request.shows → result ≡ Status.Done
         → Between S.Store O.Sink store.old out.old store.new out.new (spec.HasShown asked) }
 
-    // Its JSON is told.
+    // The tree is printed as JSON.
     ensures told_json { (asked : Request) → asked_by words.now ≡ Some asked → asked.work ≡ request.tells_json → result ≡ Status.Done
         → Between S.Store O.Sink store.old out.old store.new out.new (spec.HasToldJson asked) }
 
-    // The page that is made of a number is written shortest and checked: there is no other answer to `measure`, but where the table is refused.
+    // The page that `measure` makes is written in the fewest bytes and checked. `measure` has no other answer, except
+    // that the table is refused.
     ensures measured { (asked : Request) → asked_by words.now ≡ Some asked → asked.work ≡ request.measures → result ≡ Status.Done
         → Between S.Store O.Sink store.old out.old store.new out.new (spec.HasMeasured asked) }
     ensures always_measured { (asked : Request) → asked_by words.now ≡ Some asked → asked.work ≡ request.measures
         → is_fault result ≡ false → (result ≡ Status.TableRefused) ⊎ (result ≡ Status.Done) }
 
-    // A page that is refused is explained: line and column of its first offending place, the rule, and the line with a caret below the place.
+    // A refused page is explained: line and column of its first offending place, the rule, and the line with a caret
+    // below the place.
     ensures explained { (asked : Request) (table page : List ℕ) → asked_by words.now ≡ Some asked → asked.origin ≡ request.page_at table page → asked.work ≡ request.explains
         → result ≡ Status.PageRefused → Between S.Store O.Sink store.old out.old store.new out.new (spec.HasExplained asked page) }
 
-    // Of a page that isn't refused, it is told how short its tree can be written.
+    // For a page that isn't refused, `explain` prints how short its tree can be written.
     ensures settled { (asked : Request) (table page : List ℕ) → asked_by words.now ≡ Some asked → asked.origin ≡ request.page_at table page → asked.work ≡ request.explains
         → result ≡ Status.Done → Between S.Store O.Sink store.old out.old store.new out.new (spec.HasSettled asked page) }
 
-    // Whatever else is done, a page is refused at its first offending place with its rule, and JSON and a table for their first fault.
+    // In every command, a page is refused at its first offending place with its rule, and JSON and a table for their
+    // first fault.
     ensures refused_page { (asked : Request) → asked_by words.now ≡ Some asked → endings.is_explained asked.origin asked.work ≡ false → result ≡ Status.PageRefused
         → Between S.Store O.Sink store.old out.old store.new out.new (spec.HasRefusedPage asked) }
     ensures refused_json { (asked : Request) → asked_by words.now ≡ Some asked → result ≡ Status.JsonRefused

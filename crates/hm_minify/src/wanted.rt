@@ -11,8 +11,8 @@ use hm_order::reorder;
 use hm_words::Asked;
 use std::alloc::Global;
 
-/// What a request works on, of what was read for it: with the flag for it, the attributes of each tag are put into the order in which
-/// its text is shortest.
+/// The tree that a request works on, from what was read for it: with `--order` the attributes of each tag are put into
+/// the order in which its text is shortest.
 pub fn wanted(alloc: Global, input: Input, asked: &Asked<'_>) -> Result<Input, OutOfMemory>
     requires settled { Settled input.tree }
     ensures wanted { IfOk result (λ made. inputs.tree made.bytes made.table.entries made.tree ≡ spec.wanted (request_of asked.now) (inputs.tree input.bytes input.table.entries input.tree)) }

@@ -1,4 +1,4 @@
-//! What a request ends with, made in memory.
+//! Makes in memory what a request ends with.
 ghost use Rattle.std.specs.Prelude.{◌≡◌, ◌≢◌, ◌⊎◌, ◌≤◌, ◌++◌, ◌∷◌, [], drop, length, IfOk, Err, true, false};
 ghost use Rattle.hm_cert.specs.Certificate.{AreRows};
 ghost use Rattle.hm_elements.specs.Settled.{Settled};
@@ -42,7 +42,7 @@ pub fn format_of(sparse: bool) -> Format
     }
 }
 
-/// Where what is written of a text begins, in bytes: after the front of a fragment, or at its first byte.
+/// The index of the first byte that is written: after `front()` for a fragment, else 0.
 fn begin_of(frame: bool, text: &[u8]) -> usize
     ensures inside { result ≤ length text.now }
     ensures part { drop result text.now ≡ spec.written_part frame text.now }
@@ -54,7 +54,7 @@ fn begin_of(frame: bool, text: &[u8]) -> usize
     }
 }
 
-/// The tree of an input, written shortest, with its certificate.
+/// The shortest text of an input's tree, with its certificate.
 fn write_shortest(alloc: Global, input: &Input, writing: Writing) -> Result<Minified, OutOfMemory>
     requires settled { Settled input.now.tree }
     ensures made { IfOk result (IsMinifiedBy input.now.table.entries writing.rules (spec.format_of writing.sparse) input.now.tree) }
@@ -69,7 +69,7 @@ fn write_shortest(alloc: Global, input: &Input, writing: Writing) -> Result<Mini
     )
 }
 
-/// The tree of an input, written shortest and certified.
+/// The ending that writes the shortest text of an input's tree and its certificate.
 fn minify<'w>(
     alloc: Global,
     input: &Input,
@@ -103,7 +103,7 @@ fn minify<'w>(
     })
 }
 
-/// The lines of a tree.
+/// The ending that prints the lines of a tree.
 fn show<'w>(alloc: Global, tree: Tree) -> Result<RunEnd<'w>, Stop>
     ensures ended { IfOk result (λ ended. ended ≡ spec.says Status.Done (dump_of tree)) }
     ensures memory { result ≢ Err Stop.Store }
@@ -111,7 +111,7 @@ fn show<'w>(alloc: Global, tree: Tree) -> Result<RunEnd<'w>, Stop>
     Ok(shows(alloc, Status::Done, Shown::of(alloc, tree)?))
 }
 
-/// The JSON of a tree.
+/// The tree is printed as JSON.
 fn tell_json<'w>(alloc: Global, tree: Tree) -> Result<RunEnd<'w>, Stop>
     ensures ended { IfOk result (λ ended. ended ≡ spec.says Status.Done (json_text tree ++ 10 ∷ [])) }
     ensures memory { result ≢ Err Stop.Store }
@@ -119,7 +119,7 @@ fn tell_json<'w>(alloc: Global, tree: Tree) -> Result<RunEnd<'w>, Stop>
     Ok(tells_json(alloc, Status::Done, JsonShown::of(alloc, tree)?))
 }
 
-/// The name of the file of a page; a page that is made has none.
+/// The name of a page's file. It is empty for a page that `measure` makes.
 fn page_name<'w>(origin: &Origin<'w>) -> &'w str
     ensures { result.now ≡ spec.page_name (origin_of origin.now) }
 {
@@ -135,7 +135,7 @@ fn page_name<'w>(origin: &Origin<'w>) -> &'w str
     }
 }
 
-/// Writes the tree of a page of this name shortest, and says how long that is. No file is written.
+/// Finds the length of the shortest text of a page's tree, and gives the ending that prints it. No file is written.
 fn settle<'w>(
     alloc: Global,
     input: &Input,
@@ -155,7 +155,7 @@ fn settle<'w>(
     ))
 }
 
-/// What a request makes of a tree, which is freed, except where it is shown or told. A check reads two further files.
+/// The ending of a request with this tree. The tree is freed, except if it is printed. A check reads two further files.
 fn answer<'w, S: Store>(
     alloc: Global,
     asked: &Asked<'w>,
@@ -185,7 +185,7 @@ fn answer<'w, S: Store>(
     }
 }
 
-/// What a request ends with where there is no tree, by why there is none.
+/// The ending of a request without a tree, by why there is none.
 fn without_tree<'w>(alloc: Global, unread: InputFault) -> Result<RunEnd<'w>, Stop>
     ensures said { IfOk result (IsSaidWithout unread) }
     ensures answers { IfOk result (λ ended. spec.is_fault ended.status ≡ false) }
@@ -208,7 +208,7 @@ fn without_tree<'w>(alloc: Global, unread: InputFault) -> Result<RunEnd<'w>, Sto
     }
 }
 
-/// What a request ends with, where its page isn't explained.
+/// The ending of a request that isn't `explain`.
 fn work_plain<'w, S: Store>(
     alloc: Global,
     asked: &Asked<'w>,
@@ -230,7 +230,7 @@ fn work_plain<'w, S: Store>(
     }
 }
 
-/// What is explained of the page of this name.
+/// The ending of a request to explain the page of this name.
 fn work_explained<'w, S: Store>(
     alloc: Global,
     asked: &Asked<'w>,
@@ -265,7 +265,7 @@ fn work_explained<'w, S: Store>(
     }
 }
 
-/// What a request ends with. Files are read, and none is written yet.
+/// The ending of a request. Files are read, and none is written yet.
 pub fn work<'w, S: Store>(
     alloc: Global,
     asked: &Asked<'w>,

@@ -1,4 +1,4 @@
--- The graph of sparse certificates: the edges of each state without those that another one dominates (outdoes).
+-- The graph of sparse certificates: the edges of each state without those that another one dominates.
 use Rattle.std.specs.Prelude.{ℕ, Bool, true, false, not, ◌&&◌, ◌||◌, ◌+◌, nat_lt, nat_le, List, [], ◌∷◌, if◌then◌else◌, is_some}
 use Rattle.std.specs.List.{list_any, list_all}
 use Rattle.hm_graph_laws.specs.Layers.{LayerTest, is_single}
@@ -12,8 +12,8 @@ use Rattle.hm_graph_laws.specs.Forms.{added, covers, gains, saved}
 
 -- ---- Which edges are left, over any tests
 
--- Two tests of two edges of a unit from one state: whether the second dominates the first where it stands before it, and
--- where it stands after it.
+-- Two tests of two edges of a unit from one state: whether the second dominates the first if it comes before it, and
+-- if it comes after it.
 pub record Dominance : Type 0 where
   pub in_front : Unit → Edge → Edge → Bool
   pub after : Unit → Edge → Edge → Bool
@@ -34,13 +34,13 @@ kept_edges d unit es = kept_after d unit [] es
 abbrev pub sparse : Dominance → Edges → Edges
 sparse d es unit s = kept_edges d unit (es unit s)
 
--- a layer is left out where each of its states has exactly one edge
+-- a layer is omitted if each of its states has exactly one edge
 abbrev pub forced_follows : Edges → LayerTest
 forced_follows es unit states = list_all (λ s. is_single (es unit s)) states
 
--- ---- An end that serves as well
+-- ---- A state that can replace another
 
--- Whether what is pending in a state may be forgotten: no section is open, and no code point is due.
+-- Whether what is pending in a state may be forgotten: no section is open, and no second code point has still to come.
 abbrev pub may_forget : State → Bool
 may_forget s = not (is_in_section s.at) && not (is_some (half_of s.pending))
 
@@ -48,11 +48,11 @@ may_forget s = not (is_in_section s.at) && not (is_some (half_of s.pending))
 abbrev pub forgotten : State → State
 forgotten s = state s.at nothing
 
--- Whether t serves as well as s: it is s, or s with what is pending forgotten.
+-- Whether t can replace s: it is s, or s with what is pending forgotten.
 abbrev pub can_replace : State → State → Bool
 can_replace t s = same_state t s || (may_forget s && same_state t (forgotten s))
 
--- ---- A form of a value that serves as well
+-- ---- A form of a value that can replace another
 
 abbrev pub is_form : Where → Bool
 is_form in_unquoted = true
@@ -64,27 +64,27 @@ abbrev pub is_nothing : Pending → Bool
 is_nothing nothing = true
 is_nothing p = false
 
--- at the begin of a value, in one of its forms
+-- at the start of a value, in one of its forms
 abbrev pub begins_form : State → Bool
 begins_form s = is_form s.at && is_nothing s.pending
 
--- Whether t begins the value v in another form than s, in which each character may stand as itself that may in s's.
+-- Whether t starts the value v in another form than s, and each character may be written as itself in it that may in s's.
 abbrev pub form_serves : List ℕ → State → State → Bool
 form_serves v t s = begins_form t && (begins_form s && (not (same_where t.at s.at) && covers t.at s.at v))
 
--- Where the unit opens a value: whether f begins another form that serves, and with as much as that may add f is shorter, by
--- `less`, than e with what is spared at least.
+-- If the unit opens a value: whether f starts another form that can replace that of e, and f is shorter by `less`, with
+-- what the change may add at most, than e with what it saves at least.
 abbrev pub form_dominates : (ℕ → ℕ → Bool) → List Entry → Unit → Edge → Edge → Bool
 form_dominates less t (attribute_name n v) e f = form_serves v f.to e.to && less (edge_length f + added e.to.at) (edge_length e + saved (gains t f.to.at e.to.at v))
 form_dominates less t unit e f = false
 
 -- ---- Dominance by a table
 
--- f, which stands before e, dominates it: its end serves as well, and it has no more bytes; or its form wins
+-- f, which comes before e, dominates it: its end can replace that of e, and it has no more bytes; or its form wins
 abbrev pub dominates_in_front : List Entry → Unit → Edge → Edge → Bool
 dominates_in_front t unit e f = (can_replace f.to e.to && nat_le (edge_length f) (edge_length e)) || form_dominates nat_le t unit e f
 
--- f, which stands after e, dominates it: its end serves as well, and it has fewer bytes; or its form wins
+-- f, which comes after e, dominates it: its end can replace that of e, and it has fewer bytes; or its form wins
 abbrev pub dominates_after : List Entry → Unit → Edge → Edge → Bool
 dominates_after t unit e f = (can_replace f.to e.to && nat_lt (edge_length f) (edge_length e)) || form_dominates nat_lt t unit e f
 

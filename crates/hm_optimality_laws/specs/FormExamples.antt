@@ -1,4 +1,4 @@
--- Which form of a value covers another one, and where a dear character gains, on examples.
+-- Which form of a value covers another one, and where a costly character gains, on examples.
 use Rattle.std.specs.Prelude.{◌≡◌, true, false, List, [], ◌∷◌, codes, refl}
 use Rattle.hm_base.specs.Bytes.{is_space}
 use Rattle.hm_graph_laws.specs.States.{in_unquoted, in_double, in_single}

@@ -1,5 +1,5 @@
--- One form of a value in place of another: a way over the value and all that follows it is hardly longer, and shorter where a
--- character whose references are dear stands as itself.
+-- One form of a value in place of another: a way over the value and all that follows it is hardly longer, and shorter if a
+-- character whose references are costly is written as itself.
 use Rattle.std.specs.Prelude.{◌≡◌, ◌≤◌, ℕ, ◌+◌, true, List, ◌∷◌, ◌++◌, length}
 use Rattle.hm_refs.specs.Tables.{IsTable}
 use Rattle.hm_spelling_spec.specs.Tags.{Spelling}
@@ -19,14 +19,14 @@ IsForm at = ⊥
 abbrev pub value_and : List ℕ → List Unit → List Unit
 value_and v units = character_units in_value v ++ attribute_end ∷ units
 
--- a way over the value in this form and over what follows, with so many bytes more than b, and so many fewer
+-- a way over the value in this form and over what follows, with at most `more` bytes more than b, and `fewer` less than that
 pub record HasFormWay (g : Spelling) (units : List Unit) (form : Where) (b : List ℕ) (more fewer : ℕ) : Type 0 where
   pub bytes : List ℕ
   pub way : Way (edges_of g) units (state form nothing) bytes
   pub short : length bytes + fewer ≤ length b + more
 
--- Where a form covers another, each way over the value in the other form has one in this form that is hardly longer, and shorter
--- where a dear character gains.
+-- If a form covers another, each way over the value in the other form has one in this form that is hardly longer, and shorter
+-- if a costly character gains.
 abbrev pub FormsAreBounded : Type 0
 FormsAreBounded =
     (g : Spelling) → IsTable g.table → (v : List ℕ) (form other : Where) → IsForm form → IsForm other → covers form other v ≡ true

@@ -1,4 +1,4 @@
--- What is true of the graph without the edges that are dominated (outdone).
+-- What is true of the graph without the edges that are dominated.
 use Rattle.std.specs.Prelude.{◌≡◌, ◌≤◌, ◌+◌, ℕ, true, List, [], ◌∷◌, length, Some}
 use Rattle.hm_base.specs.Walks.{Event}
 use Rattle.hm_base.specs.declared.plain.SpellRules.{SpellRules}

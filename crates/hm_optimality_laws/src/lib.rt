@@ -1,5 +1,6 @@
-//! Laws of optimality: prices that keep the rules bound every spelling of a settled tree, and the first least path is a shortest
-//! one; the graph without dominated edges loses nothing; a form of a value is bounded by another. Nothing runs.
+//! Laws of optimality: feasible prices bound every spelling of a settled tree, and the first least way is a shortest
+//! one; the graph without dominated edges loses nothing; a value with some quotes is bounded by the value with others.
+//! Nothing runs.
 #![tactic(auto)]
 
 pub mod forms;

@@ -1,7 +1,7 @@
 //! Laws over the graph of sparse certificates. The functions do nothing.
 ghost use Rattle.hm_optimality_laws.specs.SparseLaws.{DominanceLosesNothing, ForgettingIsNoLoss, DominatedEdgesAreNeedless, SparseFirstWayIsFirst, SparseLeastIsLeast, SparsePricesBound, SparsePricesShow, TreesHaveValues};
 
-/// Wherever what is pending may be forgotten, nothing pending is no worse.
+/// If what is pending may be forgotten, nothing pending is no worse.
 pub fn forgetting_is_no_loss()
     ensures { ForgettingIsNoLoss }
 {}
@@ -11,13 +11,13 @@ pub fn trees_have_values()
     ensures { TreesHaveValues }
 {}
 
-/// An edge that dominates another by a table replaces it, also where it begins another form of the value.
+/// An edge that dominates another by a table replaces it, also if it opens the value with other quotes.
 pub fn dominance_loses_nothing()
     ensures { DominanceLosesNothing }
 {}
 
-/// Over any edges and by any tests that lose nothing, those that are dominated (outdone) change neither prices nor the first way.
-/// Prices that keep the rules without them bound every way.
+/// Over any edges and by any tests that lose nothing, dominated edges change neither prices nor the first way. Prices
+/// that are feasible without them bound every way.
 pub fn dominated_edges_are_needless()
     ensures { DominatedEdgesAreNeedless }
 {}
@@ -32,12 +32,12 @@ pub fn sparse_first_way_is_first()
     ensures { SparseFirstWayIsFirst }
 {}
 
-/// Prices from any source that keep the rules without the edges that are dominated bound every way.
+/// Prices from any source that are feasible without the dominated edges bound every way.
 pub fn sparse_prices_bound()
     ensures { SparsePricesBound }
 {}
 
-/// Prices from any source that keep the rules without the dominated edges show a bound: no spelling of a settled tree has
+/// Prices from any source that are feasible without the dominated edges show a bound: no spelling of a settled tree has
 /// fewer bytes than the first price.
 pub fn sparse_prices_show()
     ensures { SparsePricesShow }

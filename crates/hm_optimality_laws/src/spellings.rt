@@ -17,15 +17,15 @@ pub fn trees_have_ways()
     ensures spellings { TreesHaveSpellings }
 {}
 
-/// In the graph of a tree, where references begin only at characters that need one: each way is a spelling, each spelling has a
-/// way with no more bytes, and each tree has a way.
+/// In the graph of a tree, references start only at characters that need one: still, each way is a spelling, each
+/// spelling has a way with no more bytes, and each tree has a way.
 pub fn graph_ways_are_spellings()
     ensures spell { GraphWaysSpell }
     ensures spellings { SpellingsHaveGraphWays }
     ensures trees { TreesHaveGraphWays }
 {}
 
-/// Prices from any source that keep the rules of a certificate show that no spelling has fewer bytes than the first price.
+/// Feasible prices from any source show that no spelling has fewer bytes than the first price.
 pub fn feasible_prices_show()
     ensures { FeasiblePricesShow }
 {}

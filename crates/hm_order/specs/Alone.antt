@@ -1,4 +1,4 @@
--- A tag with one attribute that stands alone: the length of its shortest text tells what the attribute costs.
+-- A tag that has one attribute and no others: the cost of the attribute follows from the length of its shortest text.
 use Rattle.std.specs.Prelude.{ℕ, Bool, true, false, List, [], ◌∷◌, codes}
 use Rattle.hm_base.specs.Walks.{Attribute, Event, start, end}
 

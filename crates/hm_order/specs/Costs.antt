@@ -8,7 +8,7 @@ use Rattle.hm_spelling_spec.specs.Tags.{Spelling}
 use Rattle.hm_graph_laws.specs.States.{Where, after_name, after_unquoted, after_quoted, in_unquoted, in_double, in_single, nothing, state}
 use Rattle.hm_graph_laws.specs.Units.{Unit, in_value, character_units, attribute_end}
 
--- the sum of two prices, closed where one of them is
+-- the sum of two prices, infinite (None) if one of them is
 abbrev pub plus : Option ℕ → Option ℕ → Option ℕ
 plus None q = None
 plus (Some a) q = over a q
@@ -21,8 +21,8 @@ value_units value = character_units in_value (chars value) ++ attribute_end ∷ 
 abbrev pub value_cost : Spelling → Where → List ℕ → Option ℕ
 value_cost g at value = least (edges_of g) (value_units value) (state at nothing)
 
--- The fewest bytes of an attribute in any form, where so many bytes are counted after it, by where it leaves the tag. The byte in
--- front of it isn't counted.
+-- The fewest bytes of an attribute in any form. `after` says how many bytes are counted after it, by how its value ends. The
+-- byte before it isn't counted.
 abbrev pub cost_of : Spelling → (Where → ℕ) → List ℕ → List ℕ → Option ℕ
 cost_of g after name [] = Some (length name + after after_name)
 cost_of g after name (c ∷ s) =

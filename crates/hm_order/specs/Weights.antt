@@ -52,8 +52,8 @@ abbrev pub some_barred : List ℕ → Bool
 some_barred [] = false
 some_barred (c ∷ cs) = is_barred c || some_barred cs
 
--- The fewest bytes of an attribute with easy characters alone, by the bytes of its name and of its value, where so many are counted
--- after a value without quotes and so many after one in quotes. `bare` says whether the value stands without quotes.
+-- The fewest bytes of an attribute with easy characters alone, by the bytes of its name and of its value: u bytes are counted
+-- after a value without quotes, and q after one in quotes. `bare` says whether the value has no quotes.
 abbrev pub easy_cost : Bool → ℕ → ℕ → ℕ → ℕ → ℕ
 easy_cost bare name value u q = if bare then name + 1 + (value + u) else name + 2 + (value + 1 + q)
 

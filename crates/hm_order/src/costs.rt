@@ -1,4 +1,4 @@
-//! What an attribute takes in a tag, by its place there.
+//! How many bytes an attribute takes in a tag, by its place there.
 ghost use Rattle.std.specs.Prelude.{◌≡◌, ◌<◌, ◌^◌, ◌+◌, length, nat_le, ◌&&◌, not, if◌then◌else◌, IfOk, Some};
 ghost use Rattle.std.specs.List.{All};
 ghost use Rattle.hm_graph_laws.specs.ExchangeLaws.{sparing_plain};
@@ -13,19 +13,20 @@ use hm_refs::Table;
 use hm_refs::laws::every_table;
 use std::alloc::Global;
 
-/// The fewest bytes of an attribute, its name and quotes included.
+/// The fewest bytes that an attribute takes, its name and quotes included.
 #[derive(Clone, Copy, PartialEq, Eq)]
 pub struct AttrCost {
-    /// With another attribute after it. The byte between them, where one is needed, is counted.
+    /// If another attribute follows it. The space between them, if one is needed, is counted.
     pub inner: u64,
-    /// As the last one of its tag. A space before the `/` of a tag that closes itself, where one is needed, is counted.
+    /// If it is the last one of its tag. The space before the `/` of a tag that closes itself, if one is needed, is
+    /// counted.
     pub last: u64,
 }
 
-// An attribute with a name or a value of so many bytes counts as memory that is refused.
+/// Names and values of this many bytes or more fail with `OutOfMemory`.
 const LONG: usize = 1 << 27;
 
-// What an attribute without a value costs.
+/// The cost of an attribute without a value.
 fn bare_cost(name: &str) -> AttrCost
     requires { length name.now < 2 ^ 27 }
     ensures inner { result.inner ≡ length name.now + 1 }
@@ -39,15 +40,15 @@ fn bare_cost(name: &str) -> AttrCost
     }
 }
 
-// Whether a value of easy characters is shortest without quotes.
+/// Whether a value of easy characters is shortest without quotes.
 fn stands_bare(rules: SpellRules, barred: bool) -> bool
     ensures { result ≡ (rules.unquote && not barred) }
 {
     rules.unquote && !barred
 }
 
-// What an attribute costs whose value has easy characters alone, by the bytes of name and value. `bare` says whether the value
-// stands without quotes.
+/// The cost of an attribute whose value has only easy characters, by the bytes of name and value. `bare` says whether
+/// the value is written without quotes.
 fn easy_cost(name: &str, value: &str, bare: bool, tight: bool, closes: bool) -> AttrCost
     requires name { length name.now < 2 ^ 27 }
     requires value { length value.now < 2 ^ 27 }
@@ -69,7 +70,7 @@ fn easy_cost(name: &str, value: &str, bare: bool, tight: bool, closes: bool) -> 
     }
 }
 
-// What an attribute with a value costs, by the prices of tags that stand alone.
+/// The cost of an attribute with a value, from the shortest texts of tags that have this attribute alone.
 fn graph_cost(
     alloc: Global,
     table: &Table,
@@ -85,7 +86,7 @@ fn graph_cost(
     ensures last { IfOk result (λ cost. last_cost (sparing_plain table.now.entries rules) closes (record { name = name.now; value = value.now }) ≡ Some cost.last) }
     ensures low { IfOk result IsLowCost }
 {
-    // Where attributes may touch, the space after a value without quotes is the one that a '/' needs.
+    // With `tight`, the space after a value without quotes is the one that a '/' needs.
     let near = last_alone(alloc, table, rules, name, value, rules.tight)?;
     let inner = if rules.tight { near } else { near + 1 };
     if closes == rules.tight {
@@ -95,8 +96,9 @@ fn graph_cost(
     Ok(AttrCost { inner, last })
 }
 
-/// What an attribute costs in bytes, by a table and these rules, in a tag that may close itself or not. The time is that of the
-/// length of its value. A name or a value of 2^27 bytes or more is refused as memory is.
+/// How many bytes an attribute costs, by a table and these rules, in a tag that may close itself (`closes`) or not.
+/// Takes time linear in the length of the value. Fails with `OutOfMemory` if the name or the value has 2^27 bytes or
+/// more.
 pub fn attr_cost(
     alloc: Global,
     table: &Table,
@@ -124,7 +126,7 @@ pub fn attr_cost(
     Ok(easy_cost(name, value, bare, rules.tight, closes))
 }
 
-// Whether the first is at least as good a last attribute.
+/// Whether the first attribute saves at least as many bytes as the other one if it goes last.
 fn is_better_last(cost: AttrCost, other: AttrCost) -> bool
     requires cost { IsLowCost cost }
     requires other { IsLowCost other }
@@ -133,7 +135,8 @@ fn is_better_last(cost: AttrCost, other: AttrCost) -> bool
     cost.last + other.inner <= other.last + cost.inner
 }
 
-/// The place of the attribute that goes last: the first of those whose cost as the last one, less that as an inner one, is least.
+/// The index of the attribute that goes last: the first of those whose cost as the last one, less that as an inner one,
+/// is least.
 pub fn best_last(costs: &[AttrCost]) -> usize
     requires some { 0 < length costs.now }
     requires low { All IsLowCost costs.now }

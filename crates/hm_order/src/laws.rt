@@ -1,12 +1,12 @@
 //! Laws over the definitions. The functions do nothing.
 ghost use Rattle.hm_order.specs.Laws.{LikeIsSettled, OrderedBoundsAll, OrderedIsAsLarge, OrderedIsLike, OrderedIsShortest, TagsSplit};
 
-/// What a tag costs is the sum of what its attributes cost, each by whether it is the last one.
+/// The cost of a tag is the sum of the costs of its attributes, the last one counted as the last.
 pub fn tags_split()
     ensures { TagsSplit }
 {}
 
-/// The order of attributes changes no rule of settled trees.
+/// The order of attributes doesn't matter to whether a tree is settled.
 pub fn like_is_settled()
     ensures { LikeIsSettled }
 {}
@@ -21,7 +21,7 @@ pub fn ordered_is_as_large()
     ensures { OrderedIsAsLarge }
 {}
 
-/// No order of any tag's attributes makes a shorter text.
+/// No order of any tag's attributes allows a shorter text.
 pub fn ordered_is_shortest()
     ensures { OrderedIsShortest }
 {}

@@ -19,10 +19,10 @@ use hm_refs::laws::every_table;
 use hm_tree::{AttrsView, EventView, Tree};
 use std::alloc::Global;
 
-/// The tree with the attributes of each tag in the order in which its text is shortest: the first of those that save most as the last
-/// one goes last. They are put into order in place.
+/// Gives the tree with the attributes of each tag in the order in which its text is shortest: the attribute that saves
+/// most as the last one goes last, the first of them if there are several. The attributes are moved in place.
 ///
-/// Memory counts as refused where an attribute has a name or a value of 2^27 bytes or more.
+/// Fails with `OutOfMemory` if an attribute has a name or a value of 2^27 bytes or more.
 pub fn reorder(
     alloc: Global,
     tree: Tree,
@@ -41,7 +41,7 @@ pub fn reorder(
     Ok(made)
 }
 
-// Puts the attributes of each tag in order.
+/// Puts the attributes of each tag in order.
 fn order_tags(
     alloc: Global,
     tree: &mut Tree,
@@ -57,7 +57,7 @@ fn order_tags(
     Ok(())
 }
 
-// Puts the attributes of event `i` in order.
+/// Puts the attributes of event `i` in order.
 fn order_tag(
     alloc: Global,
     costs: &mut Vec<AttrCost>,
@@ -75,7 +75,7 @@ fn order_tag(
     Ok(())
 }
 
-// The place of the attribute that goes last in event `i`. None where that isn't a tag of two attributes or more.
+/// The index of the attribute of event `i` that goes last. None if the event isn't a tag with two or more attributes.
 fn last_of(
     alloc: Global,
     costs: &mut Vec<AttrCost>,
@@ -96,7 +96,7 @@ fn last_of(
     Ok(None)
 }
 
-// Whether event `i`, where it is the start of an element of SVG, may close itself.
+/// Whether the start tag of event `i` may close itself: its element is one of SVG (`foreign`) and has no content.
 fn closes_itself(tree: &Tree, i: u32, foreign: bool) -> bool
     requires { i < length tree.now }
     ensures { result ≡ (foreign && is_end (slice_get tree.now (i + 1))) }
@@ -104,7 +104,7 @@ fn closes_itself(tree: &Tree, i: u32, foreign: bool) -> bool
     foreign && is_end_after(tree, i)
 }
 
-// Whether event `i` is directly before an end.
+/// Whether the event after event `i` is an end.
 fn is_end_after(tree: &Tree, i: u32) -> bool
     requires { i < length tree.now }
     ensures { result ≡ is_end (slice_get tree.now (i + 1)) }
@@ -113,6 +113,7 @@ fn is_end_after(tree: &Tree, i: u32) -> bool
     i + 1 < len && is_end_event(&tree.event(i + 1))
 }
 
+/// Whether the event is an end.
 fn is_end_event(event: &EventView<'_>) -> bool
     ensures { result ≡ is_end (Some (event_of event.now)) }
 {
@@ -122,8 +123,8 @@ fn is_end_event(event: &EventView<'_>) -> bool
     }
 }
 
-// The place of the attribute that goes last. Where each costs one byte less as the last one, it is the first one. No attribute saves more
-// than a byte there, so the first that saves one goes last, whatever those after it cost.
+/// The index of the attribute that goes last. If each costs one byte less as the last one, it is the first one. No
+/// attribute saves more than a byte there, so the search stops at the first that saves one.
 fn find_last(
     alloc: Global,
     costs: &mut Vec<AttrCost>,

@@ -1,4 +1,4 @@
-//! Values whose fewest bytes a scan of their characters tells.
+//! Values whose fewest bytes follow from a scan of their characters.
 ghost use Rattle.std.specs.Prelude.{◌≡◌, ◌≤◌, ◌<◌, ◌||◌, true, length, Some, IfSome};
 ghost use Rattle.std.specs.Option.{option_map};
 ghost use Rattle.std.specs.Str.{chars};
@@ -14,7 +14,7 @@ use hm_base::is_space;
 use hm_edges::{Pending, Spot, may_end, step};
 use hm_refs::{NameId, Node, Table};
 
-// Whether a value without quotes can't hold the character (#attributes-2).
+/// Whether a value without quotes can't hold the character (#attributes-2).
 #[tactic(auto, unfolding(hm_spelling_spec::specs::Characters::is_barred))]
 fn is_barred(c: char) -> bool
     ensures { result ≡ characters.is_barred c }
@@ -22,8 +22,8 @@ fn is_barred(c: char) -> bool
     is_space(c) || c == '"' || c == '\'' || c == '=' || c == '<' || c == '>' || c == '`'
 }
 
-// The fewest bytes of a character in a value without quotes, where no reference to it is shorter. In a value of ASCII, as `low`
-// says, no other character counts.
+/// The fewest bytes of a character in a value without quotes, if no reference to it is shorter. With `low` the value is
+/// of ASCII, and other characters don't count.
 fn weight(low: bool, c: char) -> usize
     ensures weight { result ≡ weights.weight low c }
     ensures few { result ≤ 4 }
@@ -34,7 +34,7 @@ fn weight(low: bool, c: char) -> usize
     if is_barred(c) { 3 } else { c.len_utf8() }
 }
 
-// Whether a name has as many bytes as what it stands for weighs.
+/// Whether a name has at least as many bytes as what it gives weighs.
 fn is_heavy_name(table: &Table, low: bool, id: NameId) -> bool
     requires { id < length table.now.entries }
     ensures { result ≡ true → total (weights.weight low) (entry_at table.now.entries id).points ≤ length (entry_at table.now.entries id).name }
@@ -47,7 +47,7 @@ fn is_heavy_name(table: &Table, low: bool, id: NameId) -> bool
     weight(low, points.first) + second <= table.name(id).len()
 }
 
-// Whether no reference to the character is shorter than it weighs.
+/// Whether no reference to the character is shorter than its weight.
 fn is_heavy(table: &Table, low: bool, c: char) -> bool
     ensures { result ≡ true → IsHeavy table.now.entries low c }
 {
@@ -62,7 +62,7 @@ fn is_heavy(table: &Table, low: bool, c: char) -> bool
     true
 }
 
-// Whether the character may stand as itself in double quotes, and no reference to it is shorter.
+/// Whether the character may be written as itself in double quotes, and no reference to it is shorter.
 fn is_easy(table: &Table, ascii: bool, low: bool, c: char) -> bool
     ensures { result ≡ true → IsEasy table.now.entries ascii low c }
 {
@@ -75,7 +75,7 @@ fn is_easy(table: &Table, ascii: bool, low: bool, c: char) -> bool
     table.is_plain(c) || is_heavy(table, low, c)
 }
 
-// What is pending after these bytes in a value, where they break nothing.
+/// What is pending after these bytes in a value; None if they change what was written before.
 fn run(table: &Table, pending: Pending, bytes: &[u8]) -> Option<Pending>
     requires { HasNodes table.now pending }
     ensures run { option_map (pending_of table.now) result ≡ steps.run table.now.entries double (Some (pending_of table.now pending)) bytes.now }
@@ -88,7 +88,7 @@ fn run(table: &Table, pending: Pending, bytes: &[u8]) -> Option<Pending>
     Some(after)
 }
 
-// What is pending after a character as itself in a value. None where it makes something else of what is pending.
+/// What is pending after a character as itself in a value. None if it changes what was written before.
 fn literal(table: &Table, pending: Pending, c: char) -> Option<Pending>
     requires { HasNodes table.now pending }
     ensures literal { option_map (pending_of table.now) result ≡ weights.literal table.now.entries double (Some (pending_of table.now pending)) c }
@@ -103,7 +103,7 @@ fn literal(table: &Table, pending: Pending, c: char) -> Option<Pending>
     Some(after)
 }
 
-// The same, at once where nothing is pending.
+/// As `literal`, with a fast path if nothing is pending.
 fn literal_after(table: &Table, pending: Pending, c: char) -> Option<Pending>
     requires { HasNodes table.now pending }
     ensures literal { option_map (pending_of table.now) result ≡ weights.literal table.now.entries double (Some (pending_of table.now pending)) c }
@@ -115,16 +115,16 @@ fn literal_after(table: &Table, pending: Pending, c: char) -> Option<Pending>
     }
 }
 
-// What is known of a value whose characters are gone through.
+/// What is known of the characters of a value up to here.
 #[derive(Clone, Copy)]
 struct Seen {
-    // One of them can't stand without quotes.
+    /// One of them can't be in a value without quotes.
     barred: bool,
-    // What is pending after them as themselves.
+    /// What is pending after them, each written as itself.
     pending: Pending,
 }
 
-// What is known with one more character. None where it isn't easy, or makes something else of what is pending.
+/// What is known after one more character. None if it isn't easy, or changes what was written before.
 fn seen_with(table: &Table, ascii: bool, low: bool, seen: Seen, c: char) -> Option<Seen>
     requires { HasNodes table.now seen.pending }
     ensures easy { IfSome result (λ more. IsEasy table.now.entries ascii low c) }
@@ -147,8 +147,8 @@ fn seen_with(table: &Table, ascii: bool, low: bool, seen: Seen, c: char) -> Opti
     })
 }
 
-/// Whether a value has a character that can't stand without quotes, where all its characters are easy and stand as themselves. None
-/// where one isn't or doesn't. `low` says that they are to be of ASCII, which makes more of them easy.
+/// Whether a value has a character that can't be without quotes, if all its characters are easy and can be written as
+/// themselves. Else None. `low` says that they are all of ASCII, which makes more of them easy.
 pub(crate) fn scan(table: &Table, ascii: bool, low: bool, value: &str) -> Option<bool>
     ensures easy { IfSome result (λ barred. AreEasy table.now.entries ascii low (chars value.now)) }
     ensures literal { IfSome result (λ barred. are_literal table.now.entries (chars value.now) ≡ true) }

@@ -1,4 +1,4 @@
-//! The price of a tag with one attribute that stands alone.
+//! The price of a tag that has one attribute and no others.
 ghost use Rattle.std.specs.Prelude.{◌≡◌, ◌+◌, ◌<◌, ◌^◌, ◌∷◌, [], length, Some, IfOk};
 ghost use Rattle.hm_graph_laws.specs.ExchangeLaws.{sparing_plain};
 ghost use Rattle.hm_order.specs.Alone as alone;
@@ -12,20 +12,20 @@ use hm_shortest::least_price;
 use hm_tree::{Attrs, Tree};
 use std::alloc::Global;
 
-// Prices from here on count as memory that is refused.
+/// Prices from here on fail with `OutOfMemory`.
 const HIGH: u64 = 1 << 62;
 
-// What the shortest text of a tag that stands alone takes but for the attribute: `<br >`, or `<g />`.
+/// The bytes of the shortest text of such a tag, without the attribute: of `<br >` or `<g />`.
 const AROUND: u64 = 5;
 
-// The element of a tag that stands alone.
+/// The element of such a tag.
 fn element_alone(closes: bool) -> &'static str
     ensures { result.now ≡ alone.element_alone closes }
 {
     if closes { "g" } else { "br" }
 }
 
-// The attributes of a tag with this one alone.
+/// A list of this attribute alone.
 #[inline(always)]
 fn attrs_alone(alloc: Global, name: &str, value: &str) -> Result<Attrs, OutOfMemory>
     ensures { IfOk result (λ attrs. attrs ≡ record { name = name.now; value = value.now } ∷ []) }
@@ -35,7 +35,7 @@ fn attrs_alone(alloc: Global, name: &str, value: &str) -> Result<Attrs, OutOfMem
     Ok(attrs)
 }
 
-// The tree of an element with this attribute alone.
+/// The tree of an element with this attribute alone.
 fn tree_alone(alloc: Global, name: &str, value: &str, closes: bool) -> Result<Tree, OutOfMemory>
     requires name { length name.now < 2 ^ 27 }
     requires value { length value.now < 2 ^ 27 }
@@ -48,7 +48,7 @@ fn tree_alone(alloc: Global, name: &str, value: &str, closes: bool) -> Result<Tr
     Ok(maker.finish())
 }
 
-/// What an attribute costs as the last one of its tag, in bytes. Its value isn't empty.
+/// The cost of an attribute as the last one of its tag, in bytes. Its value isn't empty.
 pub(crate) fn last_alone(
     alloc: Global,
     table: &Table,

@@ -1,8 +1,8 @@
-//! Pages in pieces: however a page is cut, its tree or its refusal has to be that of the whole page. Prints each page that differs, and
-//! how many there are.
+//! Pages in pieces: however a page is cut, its tree or its refusal has to be that of the whole page. Prints each page
+//! that differs, and how many there are.
 //!
-//! The pages are those of `measure`, each as it is made and with a byte of it changed, and rows with how many elements are open after
-//! each piece.
+//! The pages are those of `measure`, as they are made and with one byte of them changed, and rows with how many
+//! elements are open after each piece.
 #![tactic(auto)]
 
 mod pieces;
@@ -22,13 +22,13 @@ const MADE_PAGES: u32 = 200;
 /// How many of these are cut in two at each byte.
 const CUT_IN_TWO: u32 = 20;
 
-/// How many bytes of each are changed, one at a time.
+/// How many bytes of each page are changed, one at a time.
 const CHANGES: u32 = 12;
 
-/// What a byte is changed to: bytes that begin or end something, and two that no page may have.
+/// What a byte is changed to: bytes that start or end something, and two that no page may have.
 const CHANGED_TO: &[u8] = b"<>&/!-\"'= \r\n;a\x00\xff";
 
-/// An answer whose error is want of memory.
+/// The answer, with lack of memory as an I/O error.
 pub fn kept<T>(answer: Result<T, OutOfMemory>) -> io::Result<T> {
     match answer {
         Ok(value) => Ok(value),
@@ -44,6 +44,7 @@ struct Counts {
 }
 
 impl Counts {
+    /// Counts one more page.
     fn take(&mut self, agrees: bool) {
         self.pages = self.pages.saturating_add(1);
         if !agrees {
@@ -52,7 +53,7 @@ impl Counts {
     }
 }
 
-/// Cuts a page into pieces, and the page with one byte changed after another.
+/// Cuts a page into pieces, and then the page with one byte changed, for several bytes.
 fn cut_page(alloc: Global, table: &Table, page: &mut [u8], number: u32, counts: &mut Counts) {
     counts.take(agrees_in_pieces(alloc, table, page));
     let mut chance = number;
@@ -71,6 +72,7 @@ fn cut_page(alloc: Global, table: &Table, page: &mut [u8], number: u32, counts: 
     }
 }
 
+/// Compares all pages and rows, and prints the counts.
 fn main(rt: HostRuntime) -> io::Result<()> {
     let alloc = rt.alloc();
     let table = kept(html_table(alloc))?;

@@ -1,4 +1,4 @@
-//! A page in pieces beside the whole page.
+//! Compares a page in pieces with the whole page.
 ghost use Rattle.std.specs.Prelude.{◌≤◌};
 
 use hm_base::{OutOfMemory, PAGE_LIMIT, Refused, SourceText};
@@ -23,7 +23,7 @@ pub fn next(chance: u32) -> u32 {
     chance.wrapping_mul(1_664_525).wrapping_add(1_013_904_223)
 }
 
-/// How many bytes the next piece has, where so many are left.
+/// The length of the next piece in bytes, if `left` bytes are left.
 fn size_of(cutting: Cutting, is_first: bool, chance: u32, left: usize) -> usize
     ensures { result ≤ left }
 {
@@ -44,7 +44,7 @@ fn of_whole(alloc: Global, table: &Table, page: &[u8]) -> Result<Tree, Refused> 
     }
 }
 
-/// What it gives in pieces.
+/// What a page gives in pieces.
 fn of_pieces(alloc: Global, table: &Table, page: &[u8], cutting: Cutting) -> Result<Tree, Refused> {
     let mut builder = match Builder::new(alloc, table, PAGE_LIMIT) {
         Ok(builder) => builder,
@@ -66,7 +66,7 @@ fn of_pieces(alloc: Global, table: &Table, page: &[u8], cutting: Cutting) -> Res
     builder.end()
 }
 
-/// Whether two answers are the same. Want of memory is never an answer.
+/// Whether two answers are equal. Lack of memory equals no answer.
 fn are_same(one: &Result<Tree, Refused>, other: &Result<Tree, Refused>) -> bool {
     match (one, other) {
         (Ok(one), Ok(other)) => one.same(other),

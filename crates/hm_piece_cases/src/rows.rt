@@ -6,7 +6,7 @@ use hm_refs::Table;
 use std::alloc::Global;
 use std::io;
 
-/// Whether so many elements are open after each piece.
+/// Whether this many elements are open after each piece.
 fn has_depths(alloc: Global, table: &Table, pieces: &[&[u8]], depths: &[u32]) -> io::Result<bool> {
     let mut builder = kept(Builder::new(alloc, table, PAGE_LIMIT))?;
     let mut wanted = depths.iter();

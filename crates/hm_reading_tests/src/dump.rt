@@ -1,4 +1,4 @@
-//! The lines of a tree, put to a sink in pieces.
+//! The lines of a tree, written to a sink in several puts.
 
 use crate::printed::are_those_of;
 use crate::rows::expect;
@@ -20,14 +20,14 @@ const BACK: &str = "\\t\"],[\"end\"],[\"end\"],[\"end\"]]";
 const LINES: &str =
     "doctype\nelement html\n  element head\n  element body\n    element p\n      text \"";
 
-/// Puts the lines of a tree as JSON to a sink, and says whether that succeeds; None where there is no tree or no memory.
+/// Puts the lines of a tree as JSON to a sink, and gives whether that succeeded; None if there is no tree or no memory.
 fn put_lines(alloc: Global, page: &str, sink: &mut MemSink) -> Option<bool> {
     let tree = read_tree(alloc, page.as_bytes()).ok()?;
     let shown = Shown::of(alloc, tree).ok()?;
     Some(shown.put(sink).is_ok())
 }
 
-/// Whether a put of a page's lines ends so, and these three texts are put, where this call on the sink fails.
+/// Whether a put of a page's lines ends so, and these three texts are put, if this call on the sink fails.
 fn is_put(alloc: Global, page: &str, call: u32, ok: bool, texts: (&str, &str, &str)) -> bool {
     let mut sink = MemSink::new(alloc);
     let is_listed = sink.fail(call).is_ok();
@@ -35,7 +35,7 @@ fn is_put(alloc: Global, page: &str, call: u32, ok: bool, texts: (&str, &str, &s
     is_listed & is_put & are_those_of(sink.bytes(), texts.0, texts.1, texts.2)
 }
 
-/// Asserts what is put of a page's lines with a long text where each call on the sink fails in turn, and where none does.
+/// Asserts what is put of a page's lines with a long text if each call on the sink fails in turn, and if none does.
 fn expect_lines(rt: &impl Abort, alloc: Global, page: &str, text: &str) {
     expect(rt, is_put(alloc, page, 1, false, ("", "", "")), "1");
     expect(rt, is_put(alloc, page, 2, false, (LINES, "", "")), "2");
@@ -44,7 +44,8 @@ fn expect_lines(rt: &impl Abort, alloc: Global, page: &str, text: &str) {
     expect(rt, is_put(alloc, page, 4, true, texts), "4");
 }
 
-/// Lines with a text of more bytes than wait are put three times: what stands before the text, the text, and what follows it.
+/// Lines with a text of more bytes than the buffer takes are put in three calls: what is before the text, the text, and
+/// what follows it.
 #[test]
 fn a_long_text_is_put_by_itself(rt: HostRuntime) -> Result<(), Fail> {
     let text = "0123456789".repeat(rt.alloc(), 9000)?;

@@ -1,4 +1,4 @@
-//! Classes and kinds of names, names compared, and which element stands where and closes before what.
+//! Classes and kinds of names, names compared, and which element may be in which and closes before which.
 use crate::printed::is_value;
 use crate::rows::{cut, expect};
 use hm_elements::{
@@ -33,6 +33,7 @@ fn is_class(line: &str) -> bool {
     is_value(class, &class_of(name)) && is_value(class, &kind_of(name).class)
 }
 
+/// Each name has its class.
 #[test]
 fn classes(rt: HostRuntime) {
     for line in CLASSES.lines() {
@@ -40,7 +41,7 @@ fn classes(rt: HostRuntime) {
     }
 }
 
-/// A function of a name in each line, the name, and its answer.
+/// In each line a function of a name, the name, and its answer.
 const ANSWERS: &str = "\
     closes_p li ⇒ Some(true)\n\
     closes_p h6 ⇒ Some(true)\n\
@@ -67,7 +68,7 @@ const ANSWERS: &str = "\
     is_void br ⇒ Some(true)\n\
     is_refused marquee ⇒ Some(true)\n";
 
-/// What a function of a name answers. None where there is no such function.
+/// The answer of a function for a name. None if there is no such function.
 fn answer(function: &str, name: &str) -> Option<bool> {
     match function {
         "closes_p" => Some(closes_p(name)),
@@ -86,13 +87,14 @@ fn answer(function: &str, name: &str) -> Option<bool> {
     }
 }
 
-/// Whether the function in a line answers so.
+/// Whether the function in a line gives the answer there.
 fn is_answer(line: &str) -> bool {
     let (function, rest) = cut(line, " ");
     let (name, wanted) = cut(rest, " ⇒ ");
     is_value(wanted, &answer(function, name))
 }
 
+/// Each function of a name gives its answer.
 #[test]
 fn answers(rt: HostRuntime) {
     for line in ANSWERS.lines() {
@@ -100,7 +102,7 @@ fn answers(rt: HostRuntime) {
     }
 }
 
-/// A mark of a kind in each line, a name, and whether its kind has the mark.
+/// In each line a flag of a kind, a name, and whether its kind has the flag.
 const MARKS: &str = "\
     boundary td ⇒ Some(true)\n\
     block td ⇒ Some(true)\n\
@@ -147,7 +149,7 @@ const MARKS: &str = "\
     ends ~ ⇒ Some(false)\n\
     bound ~ ⇒ Some(false)\n";
 
-/// Whether a kind has a mark. None where there is no such mark.
+/// Whether a kind has a flag. None if there is no such flag.
 fn mark(kind: Kind, mark: &str) -> Option<bool> {
     match mark {
         "heading" => Some(kind.heading),
@@ -166,13 +168,14 @@ fn mark(kind: Kind, mark: &str) -> Option<bool> {
     }
 }
 
-/// Whether the kind of the name in a line has the mark, or not.
+/// Whether the kind of the name in a line has the flag, or not, as the line says.
 fn is_marked(line: &str) -> bool {
     let (word, rest) = cut(line, " ");
     let (name, wanted) = cut(rest, " ⇒ ");
     is_value(wanted, &mark(kind_of(name), word))
 }
 
+/// Each kind has its flags.
 #[test]
 fn marks(rt: HostRuntime) {
     for line in MARKS.lines() {
@@ -180,6 +183,7 @@ fn marks(rt: HostRuntime) {
     }
 }
 
+/// Names are equal only byte for byte.
 #[test]
 fn same_names(rt: HostRuntime) {
     expect(&rt, same_name("td", "td") && same_name("", ""), "the same");
@@ -189,7 +193,7 @@ fn same_names(rt: HostRuntime) {
     expect(&rt, !is_one_of("th", &["td"]), "not one of one");
 }
 
-/// A name in each line, its parent, its grandparent or `-`, and whether it may stand there.
+/// In each line a name, its parent, its grandparent or `-`, and whether it may be there.
 const PLACES: &str = "\
     li | body | html ⇒ false\n\
     li | ul | body ⇒ true\n\
@@ -207,7 +211,7 @@ const PLACES: &str = "\
     br | br | - ⇒ false\n\
     optgroup | datalist | - ⇒ false\n";
 
-/// Whether the name in a line may stand there, or not.
+/// Whether the name in a line may be there, or not, as the line says.
 fn is_placed(line: &str) -> bool {
     let (name, rest) = cut(line, " | ");
     let (parent, rest) = cut(rest, " | ");
@@ -223,6 +227,7 @@ fn is_placed(line: &str) -> bool {
     )
 }
 
+/// Each element may be in its parents, and in no others.
 #[test]
 fn what_stands_where(rt: HostRuntime) {
     for line in PLACES.lines() {
@@ -230,7 +235,7 @@ fn what_stands_where(rt: HostRuntime) {
     }
 }
 
-/// A name in each line, the next one, and whether the next one's start and its end close the first.
+/// In each line a name, the next one, and whether the next one's start and its end close the first.
 const CLOSINGS: &str = "\
     p | div ⇒ (true, true)\n\
     p | hr ⇒ (true, false)\n\
@@ -246,7 +251,7 @@ const CLOSINGS: &str = "\
     option | optgroup ⇒ (true, true)\n\
     b | b ⇒ (false, false)\n";
 
-/// Whether the start and the end of the next name in a line close the first, or not.
+/// Whether the start and the end of the next name in a line close the first, or not, as the line says.
 fn is_closing(line: &str) -> bool {
     let (current, rest) = cut(line, " | ");
     let (next, wanted) = cut(rest, " ⇒ ");
@@ -260,6 +265,7 @@ fn is_closing(line: &str) -> bool {
     )
 }
 
+/// Each element is closed before the starts and ends that close it, and no others.
 #[test]
 fn what_closes_before_what(rt: HostRuntime) {
     for line in CLOSINGS.lines() {

@@ -11,7 +11,7 @@ use std::alloc::Global;
 use std::process::Abort;
 use std::test::Fail;
 
-/// What a fragment is read as. It is put after the front first.
+/// Reads a fragment, with `front()` before it.
 fn read(alloc: Global, table: &Table, fragment: &[u8]) -> Result<Tree, Refused> {
     if fragment.len() > 100 {
         return Err(Refused::OutOfMemory);
@@ -38,7 +38,7 @@ fn is_written(alloc: Global, tree: &Tree, inside: &str) -> bool {
     }
 }
 
-/// Whether this is wanted of a fragment: the events in its body, or the rule and the place of its refusal.
+/// Whether this is the result for a fragment: the events in its body, or the rule and the place of its refusal.
 fn is_read(alloc: Global, table: &Table, fragment: &[u8], wanted: &str) -> bool {
     match read(alloc, table, fragment) {
         Ok(tree) => is_written(alloc, &tree, wanted),
@@ -58,7 +58,7 @@ const TREES: &str = "\
     a<!--</body>-->b ⇒ [\"text\",\"a\"],[\"comment\",\"</body>\"],[\"text\",\"b\"],\n\
     <p title=\"</body>\"> ⇒ [\"start\",\"p\",[[\"title\",\"</body>\"]]],[\"end\"],\n";
 
-/// The same with the first token that closes body, where the page isn't refused.
+/// As `TREES`, with the first token that closes body, if the page isn't refused.
 const INFINITE: &str = "\
     a</body> ⇒ (FrameEnd, 1)\n\
     a</html> ⇒ (FrameEnd, 1)\n\
@@ -71,7 +71,7 @@ const INFINITE: &str = "\
     a</body></p> ⇒ (AfterBody, 8)\n\
     </html></body> ⇒ (AfterBody, 7)\n";
 
-/// The same with the refusal of the page.
+/// As `TREES`, with the refusal of the page.
 const REFUSED: &str = "\
     a\0 ⇒ (Nul, 1)\n\
     <li>x ⇒ (WrongParent, 0)\n\
@@ -85,25 +85,25 @@ const REFUSED: &str = "\
     <svg></body> ⇒ (NotCurrent, 5)\n\
     <textarea></body> ⇒ (Cut, 10)\n";
 
-/// Whether this is wanted of the fragment in a line.
+/// Whether the fragment in a line has the result there.
 fn is_line(alloc: Global, table: &Table, line: &str) -> bool {
     let (fragment, wanted) = cut(line, " ⇒ ");
     is_read(alloc, table, fragment.as_bytes(), wanted)
 }
 
-/// Asserts what each line says.
+/// Asserts the result of each line.
 fn expect_lines(rt: &impl Abort, alloc: Global, table: &Table, lines: &str) {
     for line in lines.lines() {
         expect(rt, is_line(alloc, table, line), line);
     }
 }
 
-/// Asserts what is wanted of a fragment.
+/// Asserts the result for a fragment.
 fn expect_read(rt: &impl Abort, alloc: Global, table: &Table, fragment: &[u8], wanted: &str) {
     expect(rt, is_read(alloc, table, fragment, wanted), wanted);
 }
 
-/// Asserts what is wanted of fragments with line ends, and of bytes that are no text.
+/// Asserts the results for fragments with line ends, and for bytes that are no text.
 fn expect_others(rt: &impl Abort, alloc: Global, table: &Table) {
     expect_read(rt, alloc, table, b"a\r\nb", "[\"text\",\"a\\nb\"],");
     expect_read(
@@ -120,7 +120,7 @@ fn expect_others(rt: &impl Abort, alloc: Global, table: &Table) {
     expect_read(rt, alloc, table, b"\r\n</p>", "(StrayEnd, 2)");
 }
 
-/// Refusals count bytes of the fragment.
+/// Fragments have trees or refusals. Refusals count bytes of the fragment.
 #[test]
 fn fragments_have_trees_or_refusals(rt: HostRuntime) -> Result<(), Fail> {
     let table = Table::empty(rt.alloc())?;

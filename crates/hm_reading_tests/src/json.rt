@@ -7,7 +7,7 @@ use hm_store::MemSink;
 use std::alloc::{AllocError, Global};
 use std::fmt::Write;
 
-/// The start of a page's array and its events up to the body.
+/// The start of a page's array, and its events up to the body.
 const FRONT: &str =
     "[[\"doctype\",\"plain\"],[\"start\",\"html\",[]],[\"start\",\"head\",[]],[\"end\"],[\"start\",\"body\",[]],";
 
@@ -18,7 +18,7 @@ const BACK: &str = ",[\"end\"],[\"end\"]]";
 const PAGE: &str =
     "[[\"doctype\",\"plain\"],[\"start\",\"html\",[]],[\"start\",\"head\",[]],[\"end\"],[\"start\",\"body\",[]],[\"start\",\"p\",[[\"id\",\"x\"]]],[\"text\",\"a\"],[\"start\",\"br\",[]],[\"end\"],[\"text\",\"b\"],[\"end\"],[\"end\"],[\"end\"]]";
 
-/// Whether reading the bytes ends so: `ok`, or the printed fault.
+/// Whether reading the bytes gives this: `ok`, or the printed fault.
 fn is_outcome(alloc: Global, bytes: &[u8], wanted: &str) -> bool {
     match read_tree(alloc, bytes) {
         Ok(_tree) => wanted == "ok",
@@ -26,7 +26,7 @@ fn is_outcome(alloc: Global, bytes: &[u8], wanted: &str) -> bool {
     }
 }
 
-/// Whether reading a page with these items in its body ends so.
+/// Whether reading a page with these items in its body gives this.
 fn is_body(alloc: Global, items: &str, wanted: &str) -> bool {
     match format!(in alloc; "{FRONT}{items}{BACK}") {
         Ok(page) => is_outcome(alloc, page.as_bytes(), wanted),
@@ -34,7 +34,7 @@ fn is_body(alloc: Global, items: &str, wanted: &str) -> bool {
     }
 }
 
-/// The items of a body before ` ⇒ ` in each line, and after it what reading their page ends with.
+/// The items of a body before ` ⇒ ` in each line, and after it the result of reading their page.
 const BODIES: &str = "\
     [\"start\",\"p\",[[\"id\",\"x\"]]],[\"text\",\"a\"],[\"start\",\"br\",[]],[\"end\"],[\"text\",\"b\"],[\"end\"] ⇒ ok\n\
     [\"comment\",\"c\"] ⇒ ok\n\
@@ -91,12 +91,13 @@ const BODIES: &str = "\
     [\"doctype\",\"plain\",1] ⇒ BadEvent event 5\n\
     [\"start\",\"p\",[[\"a\",\"1\"],[\"a\",\"2\"]]],[\"end\"],[\"text\",\"a\"],[\"text\",\"b\"] ⇒ NotSettled event 5 point 9\n";
 
-/// Whether reading the page in a line ends so.
+/// Whether reading the page in a line gives the result there.
 fn is_body_line(alloc: Global, line: &str) -> bool {
     let (items, wanted) = cut(line, " ⇒ ");
     is_body(alloc, items, wanted)
 }
 
+/// Bodies are read, or refused with their fault.
 #[test]
 fn bodies_are_read_or_refused(rt: HostRuntime) {
     for line in BODIES.lines() {
@@ -104,7 +105,7 @@ fn bodies_are_read_or_refused(rt: HostRuntime) {
     }
 }
 
-/// A whole text before ` ⇒ ` in each line, and after it what reading it ends with.
+/// A whole text before ` ⇒ ` in each line, and after it the result of reading it.
 const WHOLES: &str = "\
     [] ⇒ NotSettled event 0 point 1\n\
     {} ⇒ NotArray\n\
@@ -139,12 +140,13 @@ const WHOLES: &str = "\
     \u{FEFF}[] ⇒ NotJson\n\
     [{\"a\":1,\"a\":2}] ⇒ BadEvent event 0\n";
 
-/// Whether reading the text in a line ends so.
+/// Whether reading the text in a line gives the result there.
 fn is_whole(alloc: Global, line: &str) -> bool {
     let (text, wanted) = cut(line, " ⇒ ");
     is_outcome(alloc, text.as_bytes(), wanted)
 }
 
+/// Whole texts are read, or refused with their fault.
 #[test]
 fn wholes_are_read_or_refused(rt: HostRuntime) {
     for line in WHOLES.lines() {
@@ -160,7 +162,7 @@ fn nested(alloc: Global, more: usize) -> Result<String, AllocError> {
     format!(in alloc; "[\"start\",\"div\",[]]{starts},[\"end\"]{ends}")
 }
 
-/// Whether reading a page of a `div` and `more` others in it ends so.
+/// Whether reading a page of a `div` and `more` others in it gives this.
 fn is_nested(alloc: Global, more: usize, wanted: &str) -> bool {
     match nested(alloc, more) {
         Ok(items) => is_body(alloc, items.as_str(), wanted),
@@ -176,7 +178,7 @@ fn push_pairs(items: &mut String, count: u32) -> Result<(), AllocError> {
     items.push_str("]],[\"end\"]")
 }
 
-/// Whether reading a page of an element with so many attributes ends so.
+/// Whether reading a page of an element with `count` attributes gives this.
 fn is_attributed(alloc: Global, count: u32, wanted: &str) -> bool {
     match String::from_str(alloc, "[\"start\",\"p\",[[\"a0\",\"\"]") {
         Ok(mut items) => {
@@ -187,7 +189,7 @@ fn is_attributed(alloc: Global, count: u32, wanted: &str) -> bool {
     }
 }
 
-/// So many arrays, each in the one before.
+/// `count` arrays, each in the one before.
 fn arrays(alloc: Global, count: usize) -> Result<String, AllocError> {
     let ends = "]".repeat(alloc, count)?;
     let mut text = "[".repeat(alloc, count)?;
@@ -195,7 +197,7 @@ fn arrays(alloc: Global, count: usize) -> Result<String, AllocError> {
     Ok(text)
 }
 
-/// Whether reading so many arrays ends so.
+/// Whether reading `count` arrays gives this.
 fn is_array(alloc: Global, count: usize, wanted: &str) -> bool {
     match arrays(alloc, count) {
         Ok(text) => is_outcome(alloc, text.as_bytes(), wanted),
@@ -203,6 +205,7 @@ fn is_array(alloc: Global, count: usize, wanted: &str) -> bool {
     }
 }
 
+/// Elements, attributes and arrays have limits.
 #[test]
 fn there_are_limits(rt: HostRuntime) {
     let alloc = rt.alloc();
@@ -216,6 +219,7 @@ fn there_are_limits(rt: HostRuntime) {
     expect(&rt, is_array(alloc, 128, "NotJson"), "128 arrays");
 }
 
+/// JSON that is cut off is no JSON.
 #[test]
 fn what_is_cut_off_is_no_json(rt: HostRuntime) {
     let bytes = PAGE.as_bytes();
@@ -230,11 +234,11 @@ fn what_is_cut_off_is_no_json(rt: HostRuntime) {
 const SPACED: &str =
     " [[\"doctype\" ,\n\"plain\"] ,\n[\"start\" ,\n\"html\" ,\n[]] ,\n[\"start\" ,\n\"head\" ,\n[]] ,\n[\"end\"] ,\n[\"start\" ,\n\"body\" ,\n[]] ,\n[\"start\" ,\n\"p\" ,\n[[\"a\\u00e9\" ,\n\"\\\"\\\\\\/\\b\\f\\n\\r\\t\\u0001\\u001f\\u007f\"]]] ,\n[\"text\" ,\n\"\\u20ac \\ud83d\\ude00\"] ,\n[\"end\"] ,\n[\"end\"] ,\n[\"end\"]]";
 
-/// How its tree is written.
+/// The compact JSON of its tree.
 const COMPACT: &str =
     "[[\"doctype\",\"plain\"],[\"start\",\"html\",[]],[\"start\",\"head\",[]],[\"end\"],[\"start\",\"body\",[]],[\"start\",\"p\",[[\"aé\",\"\\\"\\\\/\\b\\f\\n\\r\\t\\u0001\\u001f\u{7f}\"]]],[\"text\",\"€ 😀\"],[\"end\"],[\"end\"],[\"end\"]]";
 
-/// Whether the tree of a text is written so.
+/// Whether the tree of a text is written as this JSON.
 fn is_written(alloc: Global, text: &str, wanted: &str) -> bool {
     match read_tree(alloc, text.as_bytes()) {
         Ok(tree) => match write_tree(alloc, &tree) {
@@ -245,20 +249,21 @@ fn is_written(alloc: Global, text: &str, wanted: &str) -> bool {
     }
 }
 
+/// Spaces and escapes are written compactly.
 #[test]
 fn what_is_read_is_written_compactly(rt: HostRuntime) {
     expect(&rt, is_written(rt.alloc(), PAGE, PAGE), PAGE);
     expect(&rt, is_written(rt.alloc(), SPACED, COMPACT), SPACED);
 }
 
-/// Puts the tree of [`PAGE`] to a sink, and says whether that succeeds; None where there is no tree or no memory.
+/// Puts the tree of [`PAGE`] to a sink, and gives whether that succeeded; None if there is no tree or no memory.
 fn put_page(alloc: Global, sink: &mut MemSink) -> Option<bool> {
     let tree = read_tree(alloc, PAGE.as_bytes()).ok()?;
     let shown = JsonShown::of(alloc, tree).ok()?;
     Some(shown.put(sink).is_ok())
 }
 
-/// Whether a put of [`PAGE`] ends so, and these two texts are put, where this call on the sink fails.
+/// Whether a put of [`PAGE`] ends so, and these two texts are put, if this call on the sink fails.
 fn is_put(alloc: Global, call: u32, ok: bool, one: &str, other: &str) -> bool {
     let mut sink = MemSink::new(alloc);
     let is_listed = sink.fail(call).is_ok();
@@ -266,6 +271,7 @@ fn is_put(alloc: Global, call: u32, ok: bool, one: &str, other: &str) -> bool {
     is_listed & is_put & are_those_of(sink.bytes(), one, other, "")
 }
 
+/// JSON is put with a line feed after it.
 #[test]
 fn json_is_put_with_a_line_feed(rt: HostRuntime) {
     expect(&rt, is_put(rt.alloc(), 1, false, "", ""), "the first call");

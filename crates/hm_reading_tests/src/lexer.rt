@@ -12,10 +12,11 @@ use std::alloc::Global;
 use std::process::Abort;
 use std::test::Fail;
 
+/// A table with a few names.
 const NAMES: &str =
     "{\"&amp\":{\"codepoints\":[38]},\"&amp;\":{\"codepoints\":[38]},\"&lt\":{\"codepoints\":[60]},\"&lt;\":{\"codepoints\":[60]},\"&not\":{\"codepoints\":[172]},\"&not;\":{\"codepoints\":[172]},\"&notin;\":{\"codepoints\":[8713]},\"&nesim;\":{\"codepoints\":[8770,824]}}";
 
-/// The mode after a token, as an element that it opens or closes sets it.
+/// The mode after a token, as the element that it opens or closes sets it.
 fn mode_after(token: &Token, mode: Mode) -> Mode {
     match token {
         Token::StartTag { name, .. } if mode == Mode::Html => opened_mode(name.text.as_str()),
@@ -52,7 +53,7 @@ fn piece(text: &str, from: u32, to: u32) -> &str {
     text.get(from as usize..to as usize).unwrap_or("?")
 }
 
-/// What is wanted after one or two code points.
+/// The rest of the expected text after one or two code points.
 fn after_points<'w>(wanted: &'w str, points: Points) -> &'w str {
     let rest = after_shown(wanted, &points.first);
     match points.second {
@@ -61,13 +62,14 @@ fn after_points<'w>(wanted: &'w str, points: Points) -> &'w str {
     }
 }
 
-/// What is wanted after a start tag with its attributes.
+/// The rest of the expected text after a start tag with its attributes.
 fn after_start<'w>(wanted: &'w str, name: &str, attrs: &Attrs, slash: bool) -> &'w str {
     let rest = after_attributes(after(after(wanted, "<"), name), attrs);
     after(rest, if slash { "/>" } else { ">" })
 }
 
-/// What is wanted after a token: a tag with its attributes, a comment with its text, a doctype by its form, or text as it stands.
+/// The rest of the expected text after a token: a tag with its attributes, a comment with its text, a doctype by its
+/// form, or the text itself.
 fn text_after_token<'w>(wanted: &'w str, text: &str, token: &Token) -> &'w str {
     match token {
         Token::Doctype { legacy } => after(wanted, if *legacy { "<!legacy>" } else { "<!html>" }),
@@ -83,8 +85,8 @@ fn text_after_token<'w>(wanted: &'w str, text: &str, token: &Token) -> &'w str {
     }
 }
 
-/// Where a comparison stands: the mode of the next token, whether text stands before it, whether there is no next one, and
-/// what is wanted from there on.
+/// The state of a comparison: the mode of the next token, whether text is before it, whether there is no next one, and
+/// the rest of the expected text.
 #[derive(Clone, Copy)]
 struct Stand<'w> {
     mode: Mode,
@@ -93,7 +95,7 @@ struct Stand<'w> {
     wanted: &'w str,
 }
 
-/// What is wanted where text follows or doesn't: after the bar, where text begins or ends.
+/// The rest of the expected text after the bar, if text starts or ends here.
 fn after_bar<'w>(stand: Stand<'w>, is_text: bool) -> &'w str {
     after(
         stand.wanted,
@@ -101,7 +103,7 @@ fn after_bar<'w>(stand: Stand<'w>, is_text: bool) -> &'w str {
     )
 }
 
-/// Where the comparison stands after a token.
+/// The state of the comparison after a token.
 fn after_token<'w>(stand: Stand<'w>, text: &str, token: &Token) -> Stand<'w> {
     let in_text = matches!(token, Token::Slice { .. } | Token::Points { .. });
     let wanted = after_bar(stand, in_text);
@@ -113,7 +115,7 @@ fn after_token<'w>(stand: Stand<'w>, text: &str, token: &Token) -> Stand<'w> {
     }
 }
 
-/// What is wanted after a refusal: its rule and its place.
+/// The rest of the expected text after a refusal: its rule and its place.
 fn after_refusal<'w>(wanted: &'w str, refusal: Refused) -> &'w str {
     match refusal {
         Refused::Page { rule, at } => {
@@ -124,7 +126,7 @@ fn after_refusal<'w>(wanted: &'w str, refusal: Refused) -> &'w str {
     }
 }
 
-/// Where the comparison stands after the next token, the end or the refusal, and where it is over.
+/// The state of the comparison after the next token, the end or the refusal; it is over after the last two.
 fn after_next<'w>(alloc: Global, lexer: &mut Lexer<'_>, text: &str, stand: Stand<'w>) -> Stand<'w> {
     if stand.over {
         return stand;
@@ -160,7 +162,7 @@ fn are_printed(alloc: Global, table: &Table, source: &SourceText, wanted: &str) 
     stand.over & stand.wanted.is_empty()
 }
 
-/// Whether the tokens of a page are printed so. Texts that touch are one, between two bars.
+/// Whether the tokens of a page are printed so. Adjacent texts are one, between two bars.
 fn is_printed(alloc: Global, table: &Table, page: &str, wanted: &str) -> bool {
     match SourceText::read(alloc, page.as_bytes(), OUTPUT_LIMIT) {
         Ok(source) => are_printed(alloc, table, &source, wanted),
@@ -168,26 +170,27 @@ fn is_printed(alloc: Global, table: &Table, page: &str, wanted: &str) -> bool {
     }
 }
 
-/// Whether what stands in a line of a table is so.
+/// Whether the page in a line has the tokens there.
 fn is_line(alloc: Global, table: &Table, line: &str) -> bool {
     let (page, wanted) = cut(line, " ⇒ ");
     is_printed(alloc, table, page, wanted)
 }
 
-/// Asserts what each line of a table says.
+/// Asserts each line of a table.
 fn expect_lines(rt: &impl Abort, alloc: Global, table: &Table, lines: &str) {
     for line in lines.lines() {
         expect(rt, is_line(alloc, table, line), line);
     }
 }
 
-/// Asserts what the lines of each table say.
+/// Asserts the lines of each table.
 fn expect_tables(rt: &impl Abort, alloc: Global, table: &Table) {
     expect_lines(rt, alloc, table, ORDINARY);
     expect_lines(rt, alloc, table, TAGS);
     expect_lines(rt, alloc, table, ELEMENTS);
 }
 
+/// Pages have their tokens or their refusal.
 #[test]
 fn tokens(rt: HostRuntime) -> Result<(), Fail> {
     let table = Table::read(rt.alloc(), NAMES.as_bytes())?;
@@ -217,7 +220,7 @@ fn is_tag(alloc: Global, table: &Table, attributes: &str, rest: &str, wanted: &s
     }
 }
 
-/// The same of `count` attributes of one name.
+/// As `is_tag`, with `count` attributes of one name.
 fn is_crowded(alloc: Global, table: &Table, count: usize, rest: &str, wanted: &str) -> bool {
     match " b".repeat(alloc, count) {
         Ok(attributes) => is_tag(alloc, table, attributes.as_str(), rest, wanted),
@@ -225,7 +228,7 @@ fn is_crowded(alloc: Global, table: &Table, count: usize, rest: &str, wanted: &s
     }
 }
 
-/// Asserts the same.
+/// Asserts `is_crowded`.
 fn expect_crowded(
     rt: &impl Abort,
     alloc: Global,
@@ -237,7 +240,7 @@ fn expect_crowded(
     expect(rt, is_crowded(alloc, table, count, rest, wanted), wanted);
 }
 
-/// Asserts what many attributes, and what follows them, are printed as.
+/// Asserts what is printed of many attributes, and of what follows them.
 fn expect_counts(rt: &impl Abort, alloc: Global, table: &Table) {
     expect_crowded(rt, alloc, table, 256, ">", "<a b=[]>");
     expect_crowded(rt, alloc, table, 257, ">", "!TooManyAttributes at 0");
@@ -249,7 +252,7 @@ fn expect_counts(rt: &impl Abort, alloc: Global, table: &Table) {
 /// A page whose tokens are read one after the other in the modes of [`BYTES`].
 const TOKENS: &str = "</></></b>x<title>y&#65;</title></>";
 
-/// The element in whose mode a token is read, and after ` ⇒ ` the bytes of the token, or its refusal.
+/// In each line the element in whose mode a token is read, and after ` ⇒ ` the bytes of the token, or its refusal.
 const BYTES: &str = "\
     body ⇒ Ok(Some((6, 10)))\n\
     body ⇒ Ok(Some((10, 11)))\n\
@@ -296,7 +299,7 @@ fn expect_tokens(rt: &impl Abort, alloc: Global, table: &Table) {
     }
 }
 
-/// Places in the page, attributes that are counted, and the bytes of tokens.
+/// Tokens with an empty table: places in the page, attributes that are counted, and the bytes of tokens.
 #[test]
 fn tokens_without_names(rt: HostRuntime) -> Result<(), Fail> {
     let table = Table::empty(rt.alloc())?;

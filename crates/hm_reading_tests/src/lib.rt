@@ -1,4 +1,5 @@
-//! Tests of the crates that read a page and keep a tree, apart from those crates, so that each of them is proved once.
+//! Tests of the crates that read a page and keep a tree. They are outside of those crates, so that each of them is
+//! proved once.
 #![tactic(auto)]
 
 #[cfg(test)]

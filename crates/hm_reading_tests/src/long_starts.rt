@@ -38,7 +38,7 @@ fn add(alloc: Global, attrs: &mut Attrs, i: u32) -> Result<(), OutOfMemory>
     put(attrs, name.as_str())
 }
 
-/// So many attributes.
+/// `count` attributes.
 fn attributes(alloc: Global, count: u32) -> Result<Attrs, OutOfMemory>
     requires { count < 1000 }
     ensures { IfOk result (λ attrs. attributes_size attrs ≤ 20000) }
@@ -50,7 +50,7 @@ fn attributes(alloc: Global, count: u32) -> Result<Attrs, OutOfMemory>
     Ok(attrs)
 }
 
-/// A name of so many bytes.
+/// A name of `len` bytes.
 fn long_name(alloc: Global, len: u32) -> Result<String, OutOfMemory> {
     let mut name = String::new(alloc);
     for _ in 0..len {
@@ -59,6 +59,7 @@ fn long_name(alloc: Global, len: u32) -> Result<String, OutOfMemory> {
     Ok(name)
 }
 
+/// Starts an element.
 fn start(maker: &mut Maker, name: &str, attrs: &Attrs) -> Result<(), OutOfMemory>
     requires events { length maker.old + length (path_after [] maker.old) + 2 < 2 ^ 29 }
     requires bytes { walk_size maker.old + 21000 < 2 ^ 29 }
@@ -73,6 +74,7 @@ fn start(maker: &mut Maker, name: &str, attrs: &Attrs) -> Result<(), OutOfMemory
     Ok(())
 }
 
+/// Ends the innermost element.
 fn end(maker: &mut Maker) -> Result<(), OutOfMemory> {
     if maker.depth() == 0 {
         return Err(OutOfMemory);
@@ -93,6 +95,7 @@ fn fill(maker: &mut Maker, name: &str, attrs: &Attrs) -> Result<(), OutOfMemory>
     end(maker)
 }
 
+/// The tree of two elements with this name and these attributes.
 fn made(alloc: Global, name: &str, attrs: &Attrs) -> Result<Tree, OutOfMemory>
     requires { attributes_size attrs.now ≤ 20000 }
 {
@@ -104,6 +107,7 @@ fn made(alloc: Global, name: &str, attrs: &Attrs) -> Result<Tree, OutOfMemory>
     Ok(maker.finish())
 }
 
+/// The tree of two elements with this name and `count` attributes.
 fn made_named(alloc: Global, name: &str, count: u32) -> Result<Tree, OutOfMemory> {
     if count >= 1000 {
         return Err(OutOfMemory);
@@ -112,13 +116,13 @@ fn made_named(alloc: Global, name: &str, count: u32) -> Result<Tree, OutOfMemory
     made(alloc, name, &attrs)
 }
 
-/// The tree of these two, where the name has so many bytes and there are so many attributes.
+/// The tree of two elements whose name has `len` bytes, with `count` attributes.
 fn made_of(alloc: Global, len: u32, count: u32) -> Result<Tree, OutOfMemory> {
     let name = long_name(alloc, len)?;
     made_named(alloc, name.as_str(), count)
 }
 
-/// The number of bytes of the name, whether it is an end, and how many attributes there are.
+/// The length of the name in bytes, whether the event is an end, and how many attributes there are.
 fn shown(event: EventView<'_>) -> (usize, bool, u32) {
     match event {
         EventView::Start { name, attrs, .. } => (name.len(), false, attrs.len()),
@@ -127,7 +131,7 @@ fn shown(event: EventView<'_>) -> (usize, bool, u32) {
     }
 }
 
-/// Whether attribute `at` of an event has this name, and its name as value or none.
+/// Whether attribute `at` of an event has this name, and its name as value or no value.
 fn is_attribute(event: EventView<'_>, at: u32, name: &str, with_value: bool) -> bool {
     let EventView::Start { attrs, .. } = event else {
         return false;
@@ -136,7 +140,7 @@ fn is_attribute(event: EventView<'_>, at: u32, name: &str, with_value: bool) -> 
     at < attrs.len() && attrs.at(at) == (name, value)
 }
 
-/// Whether attribute `at` of an event is attribute `i`, with its value or with none.
+/// Whether attribute `at` of an event is attribute `i`, with its value or without.
 fn has(alloc: Global, event: EventView<'_>, at: u32, i: u32, with_value: bool) -> bool {
     match numbered(alloc, i) {
         Ok(name) => is_attribute(event, at, name.as_str(), with_value),
@@ -162,7 +166,7 @@ fn has_at(alloc: Global, tree: &Tree, e: u32, at: u32, i: u32) -> bool {
     e < tree.len() && has(alloc, tree.event(e), at, i, true)
 }
 
-/// Whether attribute 0 can go after the others of the first start, where nothing else changes.
+/// Whether attribute 0 can be moved after the others of the first start, and nothing else changes.
 fn moves(alloc: Global, tree: &mut Tree, len: usize, count: u32) -> bool {
     if tree.len() == 0 || count < 2 {
         return false;
@@ -185,7 +189,7 @@ fn count_next(editor: &Editor) -> u32
     }
 }
 
-/// Leaves out attribute 0 of the next event, and says whether it had that.
+/// Removes attribute 0 of the next event, and gives whether there was one.
 fn leave_out(editor: &mut Editor) -> bool {
     if editor.left() == 0 || count_next(editor) == 0 {
         return false;
@@ -194,7 +198,7 @@ fn leave_out(editor: &mut Editor) -> bool {
     true
 }
 
-/// Leaves out the value of attribute 0 of the next event, and says whether it had that.
+/// Removes the value of attribute 0 of the next event, and gives whether there was one.
 fn leave_out_value(editor: &mut Editor) -> bool {
     if editor.left() == 0 || count_next(editor) == 0 {
         return false;
@@ -213,8 +217,8 @@ fn has_next(alloc: Global, editor: &Editor, i: u32) -> bool {
     editor.left() > 0 && has(alloc, editor.next(), 0, i, false)
 }
 
-/// Whether the first attribute of the first start, which is attribute 1 and has at least one after it, can be left out, and the
-/// value of the next one.
+/// Whether the first attribute of the first start, which is attribute 1 and has at least one after it, can be removed,
+/// and the value of the next one.
 fn edits(alloc: Global, tree: Tree, len: usize, count: u32) -> bool {
     let mut editor = tree.edit();
     leave_out(&mut editor)
@@ -224,7 +228,7 @@ fn edits(alloc: Global, tree: Tree, len: usize, count: u32) -> bool {
         && has_next(alloc, &editor, 2)
 }
 
-/// Whether such a tree is made, shown and changed so.
+/// Whether such a tree is made, shown and changed as it should be.
 fn is_right(alloc: Global, len: u32, count: u32) -> bool {
     let Ok(mut tree) = made_of(alloc, len, count) else {
         return false;
@@ -236,7 +240,7 @@ fn is_right(alloc: Global, len: u32, count: u32) -> bool {
     edits(alloc, tree, len, count) && right
 }
 
-/// Bytes of a name, and numbers of attributes.
+/// Lengths of names in bytes, and numbers of attributes.
 const STARTS: [(u32, u32); 7] = [
     (255, 255),
     (255, 256),
@@ -247,10 +251,12 @@ const STARTS: [(u32, u32); 7] = [
     (300, 300),
 ];
 
+/// Asserts that such a tree is made, shown and changed as it should be.
 fn expect_right(rt: &impl Abort, alloc: Global, len: u32, count: u32) {
     assert!(rt; is_right(alloc, len, count), "{len} {count}");
 }
 
+/// Trees at the limits of a byte are made, shown and changed as they should be.
 #[test]
 fn long_starts(rt: HostRuntime) {
     for (len, count) in STARTS {

@@ -16,15 +16,15 @@ fn is_short(text: &str) -> bool
     text.len() < 1000 && text.is_char_boundary(0)
 }
 
-/// Whether a piece of the text and the rest after it are wanted, with ` ⇒ ` between them.
+/// Whether a piece of the text and the rest after it are as expected, with ` ⇒ ` between them.
 fn is_piece(text: &str, from: u32, to: u32, place: u32, wanted: &str) -> bool {
     let piece = text.get(from as usize..to as usize).unwrap_or("?");
     let rest = text.get(place as usize..).unwrap_or("?");
     after(after(after(wanted, piece), " ⇒ "), rest).is_empty()
 }
 
-/// Whether a token and the rest after it are wanted: its piece of the text and ` ⇒ ` before that rest, or, of a doctype,
-/// whether it is the legacy one and the place of the rest.
+/// Whether a token and the rest after it are as expected: its piece of the text and ` ⇒ ` before that rest, or, for a
+/// doctype, whether it is the legacy one and the place of the rest.
 fn is_read(text: &str, token: &Token, place: u32, wanted: &str) -> bool {
     match token {
         Token::Comment { from, to } | Token::Slice { from, to } => {
@@ -35,7 +35,7 @@ fn is_read(text: &str, token: &Token, place: u32, wanted: &str) -> bool {
     }
 }
 
-/// Whether an answer is wanted: a token and what stands after it, or a fault.
+/// Whether an answer is as expected: a token and the rest after it, or a fault.
 fn is_answer(text: &str, answer: Result<(Token, u32), ScanFault>, wanted: &str) -> bool {
     match answer {
         Ok((token, place)) => is_read(text, &token, place, wanted),
@@ -43,7 +43,7 @@ fn is_answer(text: &str, answer: Result<(Token, u32), ScanFault>, wanted: &str) 
     }
 }
 
-/// Whether this is wanted of the comment at the start of a text, or `none`.
+/// Whether the comment at the start of a text is this, or `none`.
 fn is_comment(text: &str, wanted: &str) -> bool {
     if is_short(text) && begins_comment(text, 0) {
         is_answer(text, scan_comment(text, 0), wanted)
@@ -52,7 +52,7 @@ fn is_comment(text: &str, wanted: &str) -> bool {
     }
 }
 
-/// The same of the doctype.
+/// Whether the doctype at the start of a text is this, or `none`.
 fn is_doctype(text: &str, wanted: &str) -> bool {
     if is_short(text) && begins_doctype(text, 0) {
         is_answer(text, scan_doctype(text, 0), wanted)
@@ -61,7 +61,7 @@ fn is_doctype(text: &str, wanted: &str) -> bool {
     }
 }
 
-/// The same of the section of SVG.
+/// Whether the CDATA section at the start of a text is this, or `none`.
 fn is_cdata(text: &str, wanted: &str) -> bool {
     if is_short(text) && begins_cdata(text, 0) {
         is_answer(text, scan_cdata(text, 0), wanted)
@@ -70,17 +70,17 @@ fn is_cdata(text: &str, wanted: &str) -> bool {
     }
 }
 
-/// Whether this is wanted of the script at the start of a text.
+/// Whether the script at the start of a text is this.
 fn is_script(text: &str, wanted: &str) -> bool {
     is_short(text) && is_answer(text, scan_script(text, 0), wanted)
 }
 
-/// Whether this is wanted of the text of an element at the start of a text.
+/// Whether the text of an element at the start of a text is this.
 fn is_raw(name: &str, text: &str, wanted: &str) -> bool {
     is_short(text) && is_answer(text, scan_raw(text, 0, name), wanted)
 }
 
-/// In each line a text, ` ⇒ `, and what is read at its start: a piece, ` ⇒ ` and what stands after it, or a fault.
+/// In each line a text, ` ⇒ `, and what is read at its start: a piece, ` ⇒ ` and the rest after it, or a fault.
 const COMMENTS: &str = "\
     <!-->x ⇒  ⇒ x\n\
     <!--->--> ⇒  ⇒ -->\n\
@@ -110,6 +110,7 @@ const COMMENTS: &str = "\
     <a> ⇒ none\n\
     <!DOCTYPE ⇒ none\n";
 
+/// Comments end as the standard says.
 #[test]
 fn comments(rt: HostRuntime) {
     for line in COMMENTS.lines() {
@@ -132,6 +133,7 @@ const DOCTYPES: &str = "\
     <!doctype html ⇒ Cut\n\
     <!doctype x ⇒ Cut\n";
 
+/// Doctypes have the forms that a page may have.
 #[test]
 fn doctypes(rt: HostRuntime) {
     for line in DOCTYPES.lines() {
@@ -146,13 +148,14 @@ fn doctypes(rt: HostRuntime) {
     expect(&rt, is_doctype(text, "(true, 44)"), text);
 }
 
-/// The same of sections as of comments.
+/// As `COMMENTS`, for sections.
 const SECTIONS: &str = "\
     <![CDATA[]]> ⇒  ⇒ \n\
     <![CDATA[a]>b]]]>c]]> ⇒ a]>b] ⇒ c]]>\n\
     <![CDATA[a]] ⇒ Cut\n\
     <![cdata[ ⇒ none\n";
 
+/// CDATA sections end at the first `]]>`.
 #[test]
 fn cdata_sections(rt: HostRuntime) {
     for line in SECTIONS.lines() {
@@ -161,7 +164,7 @@ fn cdata_sections(rt: HostRuntime) {
     }
 }
 
-/// The same of the texts of elements, with the name of the element first.
+/// As `COMMENTS`, for the texts of elements, with the name of the element first.
 const RAW_TEXTS: &str = "\
     title </Title/> ⇒  ⇒ </Title/>\n\
     iframe <!--</iframe>--> ⇒ <!-- ⇒ </iframe>-->\n\
@@ -169,6 +172,7 @@ const RAW_TEXTS: &str = "\
     style a</ style></style ⇒ Cut\n\
     style  ⇒ Cut\n";
 
+/// The texts of elements end at their end tags.
 #[test]
 fn raw_texts(rt: HostRuntime) {
     for line in RAW_TEXTS.lines() {
@@ -181,7 +185,7 @@ fn raw_texts(rt: HostRuntime) {
     expect(&rt, is_raw("style", text, wanted), text);
 }
 
-/// The same of scripts.
+/// As `COMMENTS`, for scripts.
 const SCRIPTS: &str = "\
     <!--<script></script>--></script> ⇒ <!--<script></script>--> ⇒ </script>\n\
     <script>a</SCRIPT\t>b ⇒ <script>a ⇒ </SCRIPT\t>b\n\
@@ -194,6 +198,7 @@ const SCRIPTS: &str = "\
     <!--<script></script>--> ⇒ Cut\n\
     </script ⇒ Cut\n";
 
+/// Scripts end as the standard says.
 #[test]
 fn scripts(rt: HostRuntime) {
     for line in SCRIPTS.lines() {

@@ -1,16 +1,16 @@
-//! What is printed, compared piece by piece with what is wanted.
+//! Compares piece by piece what is printed with what is expected.
 use hm_tree::Attrs;
 use std::fmt::{self, Debug, Display, Write};
 
-/// What is wanted once another text was printed than was wanted. Nothing that is printed has it.
+/// The expected text once something else was printed. Nothing that is printed contains it.
 const OTHER: &str = "\0";
 
-/// What is wanted after a text.
+/// The rest of the expected text after this text.
 pub(crate) fn after<'w>(wanted: &'w str, text: &str) -> &'w str {
     wanted.strip_prefix(text).unwrap_or(OTHER)
 }
 
-/// What is wanted after ` name=[value]` for each attribute.
+/// The rest of the expected text after ` name=[value]` for each attribute.
 pub(crate) fn after_attributes<'w>(wanted: &'w str, attrs: &Attrs) -> &'w str {
     let mut rest = wanted;
     for i in 0..attrs.len() {
@@ -21,7 +21,7 @@ pub(crate) fn after_attributes<'w>(wanted: &'w str, attrs: &Attrs) -> &'w str {
     rest
 }
 
-/// A writer that compares what is written with what is wanted.
+/// A writer that compares what is written with what is expected.
 #[derive(Clone, Copy)]
 struct Wanted<'w> {
     rest: &'w str,
@@ -34,7 +34,7 @@ impl Write for Wanted<'_> {
     }
 }
 
-/// What is wanted after a value that is printed by `{}`.
+/// The rest of the expected text after a value that is printed by `{}`.
 pub(crate) fn after_shown<'w>(wanted: &'w str, value: &impl Display) -> &'w str {
     let mut left = Wanted { rest: wanted };
     match write!(left, "{value}") {
@@ -43,7 +43,7 @@ pub(crate) fn after_shown<'w>(wanted: &'w str, value: &impl Display) -> &'w str 
     }
 }
 
-/// What is wanted after a value that is printed by `{:?}`.
+/// The rest of the expected text after a value that is printed by `{:?}`.
 pub(crate) fn after_value<'w>(wanted: &'w str, value: &impl Debug) -> &'w str {
     let mut left = Wanted { rest: wanted };
     match write!(left, "{value:?}") {

@@ -1,3 +1,4 @@
+//! Tables of character references: what is read, and what is found in them.
 ghost use Rattle.std.specs.Prelude.{◌<◌, ◌≤◌, length, IfSome};
 ghost use Rattle.hm_refs.specs.Tables.{IsNode};
 
@@ -13,13 +14,15 @@ use std::fmt::Write;
 use std::process::Abort;
 use std::test::Fail;
 
+/// A table of seven names.
 const SEVEN: &str =
     "{\"&amp\":{\"codepoints\":[38]},\"&amp;\":{\"codepoints\":[38]},\"&lt\":{\"codepoints\":[60]},\"&lt;\":{\"codepoints\":[60]},\"&not\":{\"codepoints\":[172]},\"&not;\":{\"codepoints\":[172]},\"&notin;\":{\"codepoints\":[8713]}}";
 
+/// A table with `&copy`.
 const COPY: &str =
     "{\"&amp\":{\"codepoints\":[38]},\"&amp;\":{\"codepoints\":[38]},\"&lt\":{\"codepoints\":[60]},\"&lt;\":{\"codepoints\":[60]},\"&not\":{\"codepoints\":[172]},\"&not;\":{\"codepoints\":[172]},\"&notin;\":{\"codepoints\":[8713]},\"&copy\":{\"codepoints\":[169]},\"&copy;\":{\"codepoints\":[169]}}";
 
-/// Whether reading the text ends so: `ok`, or the printed fault.
+/// Whether reading the text gives this: `ok`, or the printed fault.
 fn is_outcome(alloc: Global, text: &str, wanted: &str) -> bool {
     match Table::read(alloc, text.as_bytes()) {
         Ok(_table) => wanted == "ok",
@@ -27,7 +30,7 @@ fn is_outcome(alloc: Global, text: &str, wanted: &str) -> bool {
     }
 }
 
-/// A text before ` ⇒ ` in each line, and after it what reading it ends with.
+/// A text before ` ⇒ ` in each line, and after it the result of reading it.
 const OUTCOMES: &str = "\
     {} ⇒ ok\n\
     {\"amp;\":{\"codepoints\":[38]}} ⇒ BadName amp;\n\
@@ -48,12 +51,13 @@ const OUTCOMES: &str = "\
     {\"&ac\":1,\"&aa\":[33]} ⇒ BadPoints &aa\n\
     {\"&ab\":{\"codepoints\":[33]},\"&ab;\":{\"codepoints\":[33,34]}} ⇒ Lone &ab\n";
 
-/// Whether reading the text in a line ends so.
+/// Whether reading the text in a line gives the result there.
 fn is_line(alloc: Global, line: &str) -> bool {
     let (text, wanted) = cut(line, " ⇒ ");
     is_outcome(alloc, text, wanted)
 }
 
+/// A text is read as a table, or refused with its first fault.
 #[test]
 fn reads_or_names_the_first_fault(rt: HostRuntime) {
     for line in OUTCOMES.lines() {
@@ -72,7 +76,7 @@ fn push_numbered(text: &mut String, count: u32, share: u32) -> Result<(), AllocE
     text.push_str("}")
 }
 
-/// Whether reading an object of `count` names ends so, where each `share` of them have one code point, from 33 on.
+/// Whether reading an object of `count` names gives this, if each `share` of them have one code point, from 33 on.
 fn is_numbered(alloc: Global, count: u32, share: u32, wanted: &str) -> bool
     requires { 64 ≤ share }
 {
@@ -93,6 +97,7 @@ const FOUR: &str =
 const FIVE: &str =
     "{\"&aa\":{\"codepoints\":[33]},\"&aa;\":{\"codepoints\":[33]},\"&ab\":{\"codepoints\":[33]},\"&ab;\":{\"codepoints\":[33]},\"&ac\":{\"codepoints\":[33]},\"&ac;\":{\"codepoints\":[33]},\"&ad\":{\"codepoints\":[33]},\"&ad;\":{\"codepoints\":[33]},\"&ae\":{\"codepoints\":[33]},\"&ae;\":{\"codepoints\":[33]}}";
 
+/// The number of names is limited, in a table and for one character.
 #[test]
 fn counts_names(rt: HostRuntime) {
     let alloc = rt.alloc();
@@ -141,7 +146,7 @@ fn is_longest(table: &Table, line: &str) -> bool {
     }
 }
 
-/// The node that `&lt` leads to, where `&l` is no name.
+/// The node that `&lt` leads to, if `&l` is no name.
 fn lt_node(table: &Table) -> Option<Node>
     ensures { IfSome result (IsNode table.now) }
 {
@@ -152,7 +157,7 @@ fn lt_node(table: &Table) -> Option<Node>
     }
 }
 
-/// The name that `&lt` is.
+/// The number of the name `&lt`.
 fn lt_name(table: &Table) -> Option<NameId>
     ensures { IfSome result (λ id. id < length table.now.entries) }
 {
@@ -162,7 +167,7 @@ fn lt_name(table: &Table) -> Option<NameId>
     }
 }
 
-/// The name that `&lt;` is, where no name is longer.
+/// The number of the name `&lt;`, if no name is longer.
 fn closed_name(table: &Table) -> Option<NameId> {
     let lt = lt_node(table)?;
     let closed = table.child(lt, b';')?;
@@ -197,6 +202,7 @@ fn expect_found(rt: &impl Abort, table: &Table) {
     expect(rt, has_both(table), "both");
 }
 
+/// Names are found by their bytes and by their characters.
 #[test]
 fn names_are_found(rt: HostRuntime) -> Result<(), Fail> {
     let table = Table::read(rt.alloc(), COPY.as_bytes())?;
@@ -204,11 +210,11 @@ fn names_are_found(rt: HostRuntime) -> Result<(), Fail> {
     Ok(())
 }
 
-/// Characters, and those of them that are plain where there are no names.
+/// Characters, and after ` ⇒ ` those of them that are plain in a table without names.
 const CHARACTERS: &str =
     "Az09 !\"#$%&'()*+,-./:;<=>?@[\\]^_`{|}~\u{7F}\u{80}\u{E9}\n ⇒ Az09!#$%()*+,-./:;?@[\\]^_{|}~";
 
-/// Whether the characters of a text that are plain are those that stand after it and ` ⇒ `.
+/// Whether the plain characters of a text are those after ` ⇒ `.
 fn is_plain(table: &Table, line: &str) -> bool {
     let (text, wanted) = cut(line, " ⇒ ");
     let mut rest = wanted;
@@ -228,6 +234,7 @@ fn expect_nothing(rt: &impl Abort, empty: &Table) {
     expect(rt, is_plain(empty, CHARACTERS), CHARACTERS);
 }
 
+/// An empty table has no names, and its plain characters are as listed.
 #[test]
 fn nothing_is_found_in_an_empty_table(rt: HostRuntime) -> Result<(), Fail> {
     let empty = Table::empty(rt.alloc())?;
@@ -235,13 +242,14 @@ fn nothing_is_found_in_an_empty_table(rt: HostRuntime) -> Result<(), Fail> {
     Ok(())
 }
 
-/// In each line names with their code points, after a bar some characters, and after ` ⇒ ` those of them that are plain.
+/// In each line names with their code points, after a bar some characters, and after ` ⇒ ` those of them that are
+/// plain.
 const WITH_NAMES: &str = "\
     &aa=97 &aa;=97 &bb;=98 &fjlig;=102,106|abfjxyz! ⇒ bjxyz!\n\
     &aA;=97 &excl;=33 &xy;=102,97|abfjxyz! ⇒ abjxyz!\n\
     &half;=189|abfjxyz! ⇒ abfjxyz!\n";
 
-/// Whether the characters in a line that are plain with its names are those that it says.
+/// Whether the characters in a line that are plain with its names are those at its end.
 fn is_plain_with(alloc: Global, line: &str) -> bool {
     let (names, line) = cut(line, "|");
     match table_of(alloc, names) {
@@ -250,6 +258,7 @@ fn is_plain_with(alloc: Global, line: &str) -> bool {
     }
 }
 
+/// Which characters are plain depends on the names.
 #[test]
 fn tells_plain_characters_with_names(rt: HostRuntime) {
     for line in WITH_NAMES.lines() {
@@ -257,7 +266,7 @@ fn tells_plain_characters_with_names(rt: HostRuntime) {
     }
 }
 
-/// Appends these names and their code points to the text of a table. A name without `=` spoils the text.
+/// Appends these names and their code points to the text of a table. A name without `=` makes the text unreadable.
 fn push_names(text: &mut String, names: &str) -> Result<(), AllocError> {
     for word in names.split(' ') {
         let (name, points) = cut(word, "=");
@@ -288,7 +297,7 @@ fn are_points(wanted: &str, points: Points) -> bool {
     }
 }
 
-/// Whether a name has these code points, of which it is a name.
+/// Whether a name has these code points, and is one of the names of the first.
 fn has_points(table: &Table, id: NameId, wanted: &str) -> bool
     requires { id < length table.now.entries }
 {
@@ -296,7 +305,7 @@ fn has_points(table: &Table, id: NameId, wanted: &str) -> bool
     are_points(wanted, points) && table.names_for(points.first).contains(&id)
 }
 
-/// Whether a name with its code points is its own longest, with these code points, of which it is a name.
+/// Whether a name is the longest name at the start of its own text, and has these code points.
 fn is_its_own(table: &Table, word: &str) -> bool {
     let (name, points) = cut(word, "=");
     match table.longest(name.as_bytes()) {
@@ -305,13 +314,14 @@ fn is_its_own(table: &Table, word: &str) -> bool {
     }
 }
 
-/// Asserts that each of these names is its own longest, with its code points.
+/// Asserts that each of these names is the longest at the start of its own text, with its code points.
 fn expect_names(rt: &impl Abort, table: &Table, names: &str) {
     for word in names.split(' ') {
         expect(rt, is_its_own(table, word), word);
     }
 }
 
+/// Each name of the standard is the longest at the start of its own text.
 #[test]
 fn each_name_of_the_standard_is_its_own_longest(rt: HostRuntime) {
     match table_of(rt.alloc(), NAMES) {
@@ -320,7 +330,7 @@ fn each_name_of_the_standard_is_its_own_longest(rt: HostRuntime) {
     }
 }
 
-/// A number before ` ⇒ ` in each line, and after it the code point that it stands for.
+/// A number before ` ⇒ ` in each line, and after it the code point that a reference to it gives.
 const NUMBERS: &str = "\
     0 ⇒ 65533\n\
     97 ⇒ 97\n\
@@ -345,7 +355,7 @@ const LEAST_NUMBERS: &str = "\
     0 ⇒ None\n\
     1114111 ⇒ Some(1114111)\n";
 
-/// Whether the number in a line stands for the code point there.
+/// Whether a reference to the number in a line gives the code point there.
 fn is_number(line: &str) -> bool {
     let (number, wanted) = cut(line, " ⇒ ");
     match number.parse::<u32>() {
@@ -371,6 +381,7 @@ fn is_least(line: &str) -> bool {
     }
 }
 
+/// References to numbers give their code points, and each code point has its least number.
 #[test]
 fn numbers_stand_for_code_points(rt: HostRuntime) {
     for line in NUMBERS.lines() {

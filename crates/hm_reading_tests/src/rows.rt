@@ -1,12 +1,12 @@
-//! Rows of tables: how a line is cut, and how what it says is asserted.
+//! Rows of tables: how a line is cut, and how a row is asserted.
 use std::process::Abort;
 
-/// What stands before the first mark of a line, and what stands after it: `?`, which no row wants, where there is no mark.
+/// The parts of a line before and after its first mark. Without a mark the second part is `?`, which no row expects.
 pub(crate) fn cut<'t>(line: &'t str, mark: &str) -> (&'t str, &'t str) {
     line.split_once(mark).unwrap_or((line, "?"))
 }
 
-/// Asserts that a row holds. A failure is told with the row.
+/// Asserts that a row holds. A failure is printed with the row.
 pub(crate) fn expect(rt: &impl Abort, holds: bool, row: &str) {
     assert!(rt; holds, "{row}");
 }

@@ -1,4 +1,4 @@
-//! Which elements tags close, make and open, and what is refused.
+//! Which elements tags close, make and open, and which tags are refused.
 use crate::printed::{after, is_value};
 use crate::rows::{cut, expect};
 use hm_open_elements::{Moves, Path, SettleFault};
@@ -6,7 +6,7 @@ use std::alloc::Global;
 use std::process::Abort;
 use std::test::Fail;
 
-/// Takes a start tag, or, where a `/` stands before it, an end tag. None has an end of `body` or `html`.
+/// Applies a start tag, or, with a `/` before it, an end tag. None has an end of `body` or `html`.
 fn take(path: &mut Path, tag: &str) -> Result<Moves, SettleFault> {
     match tag.strip_prefix("/") {
         Some(name) => {
@@ -22,7 +22,7 @@ fn take(path: &mut Path, tag: &str) -> Result<Moves, SettleFault> {
     }
 }
 
-/// Takes these tags, and says whether each was taken.
+/// Applies these tags, and gives whether each was accepted.
 fn take_all(path: &mut Path, tags: &str) -> bool {
     for tag in tags.split_whitespace() {
         if take(path, tag).is_err() {
@@ -41,7 +41,7 @@ fn holds(path: &Path, names: &str) -> bool {
     rest.is_empty()
 }
 
-/// Whether a tag's answer is so: how many elements it closes and what it makes, or the rule that refuses it.
+/// Whether the result of a tag is this: how many elements it closes and what it makes, or the rule that refuses it.
 fn is_answer(answer: Result<Moves, SettleFault>, wanted: &str) -> bool {
     match answer {
         Ok(moves) => is_value(wanted, &(moves.closes, moves.made)),
@@ -50,14 +50,14 @@ fn is_answer(answer: Result<Moves, SettleFault>, wanted: &str) -> bool {
     }
 }
 
-/// Whether, after these tags, a tag's answer is so, and then these are open in `body`.
+/// Whether, after these tags, a tag has this result, and then these are open in `body`.
 fn goes(path: &mut Path, before: &str, tag: &str, wanted: &str, open: &str) -> bool {
     let is_taken = take_all(path, before);
     let is_answered = is_answer(take(path, tag), wanted);
     is_taken & is_answered & holds(path, open)
 }
 
-/// The same where nothing is open in `body` at first.
+/// As `goes`, with nothing open in `body` at first.
 fn gives(alloc: Global, before: &str, tag: &str, wanted: &str, open: &str) -> bool {
     match Path::new(alloc) {
         Ok(mut path) => goes(&mut path, before, tag, wanted, open),
@@ -65,8 +65,8 @@ fn gives(alloc: Global, before: &str, tag: &str, wanted: &str, open: &str) -> bo
     }
 }
 
-/// In each line, between bars: tags that are taken, a tag after them, how many elements it closes and what it makes, and
-/// what is then open in `body`.
+/// In each line, between bars: tags that are applied, a tag after them, how many elements it closes and what it makes,
+/// and what is then open in `body`.
 const TAKEN: &str = "\
     p | p | (1, Nothing) | p\n\
     ul li p | li | (2, Nothing) | ul li\n\
@@ -84,8 +84,8 @@ const TAKEN: &str = "\
     a svg | a | (0, Nothing) | a svg a\n\
     svg g | /g | (1, Nothing) | svg\n";
 
-/// In each line, between bars: tags that are taken, a tag after them, the rule by which it is refused, and what is then
-/// open in `body`, the same as before.
+/// In each line, between bars: tags that are applied, a tag after them, the rule by which it is refused, and what is
+/// then open in `body`, the same as before.
 const REFUSED: &str = "\
     p span | div | BlockInParagraph | p span\n\
     a b | a | Nested | a b\n\
@@ -104,7 +104,7 @@ const REFUSED: &str = "\
     | /p | StrayEnd |\n\
     ul | /li | StrayEnd | ul\n";
 
-/// Whether what stands in a line is so.
+/// Whether the tags in a line have the result there.
 fn is_line(alloc: Global, line: &str) -> bool {
     let (before, rest) = cut(line, "|");
     let (tag, rest) = cut(rest, "|");
@@ -112,6 +112,7 @@ fn is_line(alloc: Global, line: &str) -> bool {
     gives(alloc, before, tag.trim(), wanted.trim(), open)
 }
 
+/// Tags close and make elements as listed.
 #[test]
 fn what_tags_close_and_make(rt: HostRuntime) {
     for line in TAKEN.lines() {
@@ -119,6 +120,7 @@ fn what_tags_close_and_make(rt: HostRuntime) {
     }
 }
 
+/// Tags are refused by the rule listed.
 #[test]
 fn what_is_refused(rt: HostRuntime) {
     for line in REFUSED.lines() {
@@ -126,8 +128,8 @@ fn what_is_refused(rt: HostRuntime) {
     }
 }
 
-/// A tag in each line, the answer to it, and then how many elements are open and the innermost of them. They are taken one
-/// after the other where 510 are open.
+/// In each line a tag, its result, and then how many elements are open and the innermost of them. They are applied one
+/// after the other when 510 are open.
 const DEEP: &str = "\
     table | (0, Nothing) | (511, \"table\")\n\
     tr | TooDeep | (511, \"table\")\n\
@@ -140,7 +142,7 @@ const DEEP: &str = "\
     svg | (0, Nothing) | (512, \"svg\")\n\
     g | TooDeep | (512, \"svg\")\n";
 
-/// Takes the tag in a line, and says whether what stands in the line is so.
+/// Applies the tag in a line, and gives whether its result is the one there.
 fn is_step(path: &mut Path, line: &str) -> bool {
     let (tag, rest) = cut(line, " | ");
     let (wanted, open) = cut(rest, " | ");
@@ -148,12 +150,12 @@ fn is_step(path: &mut Path, line: &str) -> bool {
     is_answered & is_value(open, &(path.len(), path.current()))
 }
 
-/// Whether the innermost of 512 open elements alone is one of SVG.
+/// Whether of 512 open elements only the innermost is one of SVG.
 fn ends_in_svg(path: &Path) -> bool {
     path.len() == 512 && path.foreign(511) && !path.foreign(510)
 }
 
-/// Takes a `b` so often, and says whether each was taken.
+/// Applies `count` start tags of `b`, and gives whether each was accepted.
 fn nest(path: &mut Path, count: u32) -> bool {
     for _ in 0..count {
         if take(path, "b").is_err() {
@@ -163,7 +165,7 @@ fn nest(path: &mut Path, count: u32) -> bool {
     true
 }
 
-/// Asserts that 508 of `b` are taken, and then what stands in each line of [`DEEP`].
+/// Asserts that 508 of `b` are accepted, and then each line of [`DEEP`].
 fn expect_steps(rt: &impl Abort, path: &mut Path) {
     expect(rt, nest(path, 508), "508 of b");
     for line in DEEP.lines() {
@@ -172,6 +174,7 @@ fn expect_steps(rt: &impl Abort, path: &mut Path) {
     expect(rt, ends_in_svg(path), "an svg in a b");
 }
 
+/// At most 512 elements are open.
 #[test]
 fn at_most_512_are_open(rt: HostRuntime) -> Result<(), Fail> {
     let mut path = Path::new(rt.alloc())?;
@@ -179,7 +182,8 @@ fn at_most_512_are_open(rt: HostRuntime) -> Result<(), Fail> {
     Ok(())
 }
 
-/// Tags before ` ⇒ ` in each line, and after it whether the innermost element that is then open is one of HTML that holds one text.
+/// Tags before ` ⇒ ` in each line, and after it whether the innermost element that is then open is one of HTML that
+/// holds one text.
 const TEXTS: &str = "\
     \x20⇒ false\n\
     textarea ⇒ true\n\
@@ -189,7 +193,7 @@ const TEXTS: &str = "\
     svg style ⇒ false\n\
     p br ⇒ false\n";
 
-/// Whether it is so after the tags in a line that an element of one text is open.
+/// Whether after the tags in a line an element of one text is open, or not, as the line says.
 fn is_text(alloc: Global, line: &str) -> bool {
     let (tags, wanted) = cut(line, " ⇒ ");
     match Path::new(alloc) {
@@ -201,6 +205,7 @@ fn is_text(alloc: Global, line: &str) -> bool {
     }
 }
 
+/// Only elements of HTML hold one text.
 #[test]
 fn one_text_in_html_alone(rt: HostRuntime) {
     for line in TEXTS.lines() {

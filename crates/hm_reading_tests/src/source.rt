@@ -5,7 +5,7 @@ use hm_base::{SourceText, TextFault};
 use std::alloc::Global;
 use std::process::Abort;
 
-/// How many bytes the text of a page has, where 4,194,304 bytes are read at most.
+/// The length of a page's text in bytes. At most 4,194,304 bytes are read.
 fn length_of(alloc: Global, page: &[u8]) -> Result<usize, TextFault> {
     match SourceText::read(alloc, page, 4_194_304) {
         Ok(text) => Ok(text.text().len()),
@@ -13,7 +13,7 @@ fn length_of(alloc: Global, page: &[u8]) -> Result<usize, TextFault> {
     }
 }
 
-/// Whether a page is one byte longer than the most bytes that are read.
+/// Whether a page is too long, but not without its first byte.
 fn is_over_limit(alloc: Global, page: &[u8]) -> bool {
     match page.get(1..) {
         Some(most) => {
@@ -24,13 +24,14 @@ fn is_over_limit(alloc: Global, page: &[u8]) -> bool {
     }
 }
 
+/// A page may be as long as the limit.
 #[test]
 fn limit(rt: HostRuntime) {
     let page = vec![in rt.alloc(); b'a'; 4_194_305].expect(&rt, "memory");
     expect(&rt, is_over_limit(rt.alloc(), page.as_slice()), "the limit");
 }
 
-/// Whether a page has this fault, where 100 bytes are read at most.
+/// Whether a page has this fault. At most 100 bytes are read.
 fn has_fault(alloc: Global, page: &[u8], wanted: &str) -> bool {
     match SourceText::read(alloc, page, 100) {
         Ok(_text) => false,
@@ -43,6 +44,7 @@ fn expect_fault(rt: &impl Abort, alloc: Global, page: &[u8], wanted: &str) {
     expect(rt, has_fault(alloc, page, wanted), wanted);
 }
 
+/// Pages that are no text have their faults.
 #[test]
 fn faults(rt: HostRuntime) {
     let alloc = rt.alloc();
@@ -65,7 +67,7 @@ fn is_text(text: &SourceText, wanted: &str, places: &str) -> bool {
     text.text() == wanted && rest.is_empty()
 }
 
-/// The same of the text of a page.
+/// As `is_text`, for the text of a page.
 fn has_text(alloc: Global, page: &[u8], wanted: &str, places: &str) -> bool {
     match SourceText::read(alloc, page, 100) {
         Ok(text) => is_text(&text, wanted, places),
@@ -76,6 +78,7 @@ fn has_text(alloc: Global, page: &[u8], wanted: &str, places: &str) -> bool {
 /// A page with line ends of each kind.
 const PAGE: &[u8] = b"\xEF\xBB\xBFa\r\nb\rc\r\r\n\xC3\xA9\n";
 
+/// Places in the text are those in the page, also after line ends.
 #[test]
 fn places(rt: HostRuntime) {
     let places = " 3 4 6 7 8 9 10 12 13 14 15";
@@ -95,7 +98,7 @@ fn is_same(one: &SourceText, other: &SourceText) -> bool {
     one.text() == other.text() && end_of(one) == end_of(other)
 }
 
-/// Whether the text of a page of at most five bytes is this one, where it is given away.
+/// Whether the text of a page of at most five bytes is this one, if the page's memory is handed over.
 fn is_given(alloc: Global, page: &[u8], read: &SourceText) -> bool {
     match Vec::from_slice(alloc, page) {
         Ok(bytes) => match SourceText::take(alloc, bytes, 5) {
@@ -106,7 +109,7 @@ fn is_given(alloc: Global, page: &[u8], read: &SourceText) -> bool {
     }
 }
 
-/// Whether the text of a page of at most five bytes is the same where the page is given away.
+/// Whether the text of a page of at most five bytes is the same if the page's memory is handed over.
 fn is_taken(alloc: Global, page: &[u8]) -> bool {
     match SourceText::read(alloc, page, 5) {
         Ok(read) => is_given(alloc, page, &read),
@@ -114,6 +117,7 @@ fn is_taken(alloc: Global, page: &[u8]) -> bool {
     }
 }
 
+/// The text is the same if the page's memory is handed over.
 #[test]
 fn taken(rt: HostRuntime) {
     let alloc = rt.alloc();

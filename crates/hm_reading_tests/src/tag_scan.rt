@@ -10,15 +10,16 @@ use std::alloc::Global;
 use std::process::Abort;
 use std::test::Fail;
 
+/// A table with `&copy`.
 const NAMES: &str = "{\"&copy\":{\"codepoints\":[169]},\"&copy;\":{\"codepoints\":[169]}}";
 
-/// What is wanted after a start tag: its name, its attributes, and ` /` where a `/` stands before the `>`.
+/// The rest of the expected text after a start tag: its name, its attributes, and ` /` if a `/` is before the `>`.
 fn after_start<'w>(wanted: &'w str, name: &str, attrs: &Attrs, slash: bool) -> &'w str {
     let rest = after_attributes(after(wanted, name), attrs);
     after(rest, if slash { " /" } else { "" })
 }
 
-/// What is wanted after a tag. An end tag is `/` and its name.
+/// The rest of the expected text after a tag. An end tag is `/` and its name.
 fn text_after_tag<'w>(wanted: &'w str, token: &Token) -> &'w str {
     match token {
         Token::StartTag { name, attrs, slash } => {
@@ -29,7 +30,7 @@ fn text_after_tag<'w>(wanted: &'w str, token: &Token) -> &'w str {
     }
 }
 
-/// Whether an answer is wanted: the tag and, after a space, the place after the tag, or its fault.
+/// Whether an answer is as expected: the tag and, after a space, the place after the tag, or its fault.
 fn is_answer(wanted: &str, answer: Result<(Token, u32), ScanFault>) -> bool {
     match answer {
         Ok((token, place)) => is_value(after(text_after_tag(wanted, &token), " "), &place),
@@ -37,7 +38,7 @@ fn is_answer(wanted: &str, answer: Result<(Token, u32), ScanFault>) -> bool {
     }
 }
 
-/// Whether this is wanted of the start of a text: its tag and the place after it, its fault, or `no tag`.
+/// Whether this is read at the start of a text: its tag and the place after it, its fault, or `no tag`.
 fn is_tag(alloc: Global, table: &Table, text: &str, wanted: &str) -> bool {
     if text.len() < 1000 && begins_tag(text, 0) {
         is_answer(wanted, scan_tag(alloc, text, 0, table))
@@ -46,8 +47,8 @@ fn is_tag(alloc: Global, table: &Table, text: &str, wanted: &str) -> bool {
     }
 }
 
-/// A text before ` ⇒ ` in each line, and after it what is read at its start: the name of a tag, after `/` where it is
-/// an end tag, its attributes, `/` where it stands before the `>`, and the place after the tag.
+/// A text before ` ⇒ ` in each line, and after it what is read at its start: the name of a tag, with `/` before it if
+/// it is an end tag, its attributes, `/` if it is before the `>`, and the place after the tag.
 const TAGS: &str = "\
     <a/b=c//>d ⇒ a b=[c//] 9\n\
     <a b=\"c\"d/> ⇒ a b=[c] d=[] / 11\n\
@@ -81,13 +82,13 @@ const TAGS: &str = "\
     <a b=&#65> ⇒ a b=[A] 10\n\
     <a b=\"&#x80;&#;&#65x\"> ⇒ a b=[€&#;Ax] 22\n";
 
-/// Whether what stands in a line is so.
+/// Whether the text in a line has the tag there.
 fn is_line(alloc: Global, table: &Table, line: &str) -> bool {
     let (text, wanted) = cut(line, " ⇒ ");
     is_tag(alloc, table, text, wanted)
 }
 
-/// Asserts what each line says, and what is read of a tag of two lines.
+/// Asserts each line, and what is read of a tag of two lines.
 fn expect_tags(rt: &impl Abort, alloc: Global, table: &Table) {
     for line in TAGS.lines() {
         expect(rt, is_line(alloc, table, line), line);
@@ -96,6 +97,7 @@ fn expect_tags(rt: &impl Abort, alloc: Global, table: &Table) {
     expect(rt, is_tag(alloc, table, text, "a b=[c] d=[] 16"), text);
 }
 
+/// Tags have their names, attributes and places, or their faults.
 #[test]
 fn tags(rt: HostRuntime) -> Result<(), Fail> {
     let table = Table::read(rt.alloc(), NAMES.as_bytes())?;
@@ -103,7 +105,7 @@ fn tags(rt: HostRuntime) -> Result<(), Fail> {
     Ok(())
 }
 
-/// Whether this is wanted of a start tag in which an attribute is written `count` times.
+/// Whether this is read of a start tag in which an attribute is written `count` times.
 fn is_repeated(alloc: Global, table: &Table, count: usize, wanted: &str) -> bool {
     match " a".repeat(alloc, count) {
         Ok(attributes) => is_tag_with(alloc, table, attributes.as_str(), wanted),
@@ -111,7 +113,7 @@ fn is_repeated(alloc: Global, table: &Table, count: usize, wanted: &str) -> bool
     }
 }
 
-/// The same of a start tag with these attributes.
+/// Whether this is read of a start tag with these attributes.
 fn is_tag_with(alloc: Global, table: &Table, attributes: &str, wanted: &str) -> bool {
     match format!(in alloc; "<p{attributes}>") {
         Ok(text) => is_tag(alloc, table, text.as_str(), wanted),
@@ -119,6 +121,7 @@ fn is_tag_with(alloc: Global, table: &Table, attributes: &str, wanted: &str) -> 
     }
 }
 
+/// A start tag may have at most 256 attributes.
 #[test]
 fn at_most_256_attributes_are_written(rt: HostRuntime) -> Result<(), Fail> {
     let table = Table::empty(rt.alloc())?;

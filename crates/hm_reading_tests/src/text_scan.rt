@@ -10,6 +10,7 @@ use hm_tree::Token;
 use std::process::Abort;
 use std::test::Fail;
 
+/// A table with a few names.
 const NAMES: &str =
     "{\"&amp\":{\"codepoints\":[38]},\"&amp;\":{\"codepoints\":[38]},\"&lt\":{\"codepoints\":[60]},\"&lt;\":{\"codepoints\":[60]},\"&not\":{\"codepoints\":[172]},\"&not;\":{\"codepoints\":[172]},\"&notin;\":{\"codepoints\":[8713]},\"&nesim;\":{\"codepoints\":[8770,824]},\"&copy\":{\"codepoints\":[169]},\"&copy;\":{\"codepoints\":[169]}}";
 
@@ -26,7 +27,7 @@ fn is_text(text: &str, at: u32, rcdata: bool) -> bool
         && (rcdata || !begins_markup(text, at))
 }
 
-/// Whether a token and the place after it are wanted: where its text begins and ends, or its code points.
+/// Whether a token and the place after it are as expected: where its text starts and ends, or its code points.
 fn is_read(token: &Token, place: u32, wanted: &str) -> bool {
     match token {
         Token::Slice { from, to } => is_value(wanted, &(*from, *to, place)),
@@ -35,7 +36,7 @@ fn is_read(token: &Token, place: u32, wanted: &str) -> bool {
     }
 }
 
-/// Whether this is wanted of the piece of text at a place, in a title or outside.
+/// Whether the piece of text at a place is as expected, in a title or outside.
 fn is_piece(table: &Table, rcdata: bool, text: &str, at: u32, wanted: &str) -> bool {
     if is_text(text, at, rcdata) {
         let (token, place) = scan_text(text, at, rcdata, table);
@@ -45,8 +46,8 @@ fn is_piece(table: &Table, rcdata: bool, text: &str, at: u32, wanted: &str) -> b
     }
 }
 
-/// In each line a place in a text, the text, and what is read there: where its text begins and ends or its code points, and
-/// the place after it. It is the same in a title.
+/// In each line a place in a text, the text, and what is read there: where its text starts and ends or its code points,
+/// and the place after it. It is the same in a title.
 const REFERENCES: &str = "\
     0 &copy= ⇒ ('©', None, 5)\n\
     0 &copy;= ⇒ ('©', None, 6)\n\
@@ -57,7 +58,7 @@ const REFERENCES: &str = "\
     0 &#1114112;x ⇒ ('\u{FFFD}', None, 10)\n\
     2 é&lt;y ⇒ ('<', None, 6)\n";
 
-/// The same outside of titles.
+/// As `REFERENCES`, outside of titles.
 const SLICES: &str = "\
     0 &#; ⇒ (0, 3, 3)\n\
     0 &#x;&# ⇒ (0, 6, 6)\n\
@@ -68,13 +69,13 @@ const SLICES: &str = "\
     8 x&y&amp;z ⇒ (8, 9, 9)\n\
     0 é<! ⇒ (0, 2, 2)\n";
 
-/// The same in a title.
+/// As `REFERENCES`, in a title.
 const TITLES: &str = "\
     0 a<b>&copy; ⇒ (0, 4, 4)\n\
     0 <b></b> ⇒ (0, 7, 7)\n\
     0 &<!--&lt ⇒ (0, 5, 5)\n";
 
-/// Whether what stands in a line is so.
+/// Whether the text in a line has the piece there.
 fn is_line(table: &Table, rcdata: bool, line: &str) -> bool {
     let (at, rest) = cut(line, " ");
     let (text, wanted) = cut(rest, " ⇒ ");
@@ -84,14 +85,14 @@ fn is_line(table: &Table, rcdata: bool, line: &str) -> bool {
     }
 }
 
-/// Asserts what each line says.
+/// Asserts each line.
 fn expect_lines(rt: &impl Abort, table: &Table, rcdata: bool, lines: &str) {
     for line in lines.lines() {
         expect(rt, is_line(table, rcdata, line), line);
     }
 }
 
-/// Asserts what the lines of each table say.
+/// Asserts the lines of each table.
 fn expect_tables(rt: &impl Abort, table: &Table) {
     expect_lines(rt, table, false, REFERENCES);
     expect_lines(rt, table, true, REFERENCES);
@@ -99,6 +100,7 @@ fn expect_tables(rt: &impl Abort, table: &Table) {
     expect_lines(rt, table, true, TITLES);
 }
 
+/// Pieces of text end, and references are read, as the standard says.
 #[test]
 fn pieces_of_text(rt: HostRuntime) -> Result<(), Fail> {
     let table = Table::read(rt.alloc(), NAMES.as_bytes())?;
@@ -112,6 +114,7 @@ const MARKUP: &str = "<a <Z </> </a <! <?";
 /// Starts of other texts.
 const NO_MARKUP: &str = "</ < <1 <<a";
 
+/// Which bytes start markup.
 #[test]
 fn starts_of_markup(rt: HostRuntime) {
     for text in MARKUP.split(' ') {

@@ -1,3 +1,4 @@
+//! Trees that are made call by call, attributes, and tags with their places.
 #![tactic(auto, using(hm_tree::proofs::RoomLemmas::room))]
 
 ghost use Rattle.std.specs.Prelude.{◌≡◌, ◌+◌, ◌^◌, ◌<◌, ◌≤◌, [], length, true, false, IfOk, OnOk};
@@ -12,7 +13,7 @@ use std::alloc::{AllocError, AllocFailed, Global};
 use std::process::Abort;
 use std::test::Fail;
 
-/// No attribute where the text is empty, else the one that it tells as `name=value`.
+/// No attribute if the text is empty, else the one that it writes as `name=value`.
 fn attributes(alloc: Global, text: &str) -> Result<Attrs, OutOfMemory>
     ensures { IfOk result (λ attrs. attributes_size attrs ≤ 200) }
 {
@@ -27,7 +28,7 @@ fn attributes(alloc: Global, text: &str) -> Result<Attrs, OutOfMemory>
     Ok(attrs)
 }
 
-/// Starts the element of a name, with the attribute that stands after a space, if any.
+/// Starts the element of a name, with the attribute after a space, if any.
 fn start(alloc: Global, maker: &mut Maker, call: &str) -> Result<(), OutOfMemory>
     requires events { length maker.old + length (path_after [] maker.old) + 2 < 2 ^ 29 }
     requires bytes { walk_size maker.old + 300 < 2 ^ 29 }
@@ -42,6 +43,7 @@ fn start(alloc: Global, maker: &mut Maker, call: &str) -> Result<(), OutOfMemory
     maker.start(name, false, attributes(alloc, attribute)?)
 }
 
+/// Adds a text.
 fn text(maker: &mut Maker, text: &str) -> Result<(), OutOfMemory>
     requires events { length maker.old + length (path_after [] maker.old) + 2 < 2 ^ 29 }
     requires bytes { walk_size maker.old + 300 < 2 ^ 29 }
@@ -56,6 +58,7 @@ fn text(maker: &mut Maker, text: &str) -> Result<(), OutOfMemory>
     maker.text(text, false)
 }
 
+/// Adds a comment.
 fn comment(maker: &mut Maker, text: &str) -> Result<(), OutOfMemory>
     requires events { length maker.old + length (path_after [] maker.old) + 2 < 2 ^ 29 }
     requires bytes { walk_size maker.old + 300 < 2 ^ 29 }
@@ -69,6 +72,7 @@ fn comment(maker: &mut Maker, text: &str) -> Result<(), OutOfMemory>
     maker.comment(text)
 }
 
+/// Adds a doctype.
 fn doctype(maker: &mut Maker, legacy: bool) -> Result<(), OutOfMemory>
     requires events { length maker.old + length (path_after [] maker.old) + 2 < 2 ^ 29 }
     requires bytes { walk_size maker.old + 300 < 2 ^ 29 }
@@ -79,6 +83,7 @@ fn doctype(maker: &mut Maker, legacy: bool) -> Result<(), OutOfMemory>
     maker.doctype(legacy)
 }
 
+/// Ends the innermost element.
 fn end(maker: &mut Maker) -> Result<(), OutOfMemory>
     ensures events { OnOk result (length maker.new + length (path_after [] maker.new) ≤ length maker.old + length (path_after [] maker.old) + 2) }
     ensures bytes { OnOk result (walk_size maker.new ≤ walk_size maker.old + 300) }
@@ -110,7 +115,7 @@ fn take(alloc: Global, maker: &mut Maker, call: &str) -> Result<(), OutOfMemory>
     }
 }
 
-/// The tree of at most 50 calls, with a bar after each.
+/// The tree of at most 50 calls, each followed by a bar.
 fn made(alloc: Global, calls: &str) -> Result<Tree, OutOfMemory> {
     let mut maker = Tree::maker(alloc);
     let mut left = calls;
@@ -142,7 +147,7 @@ fn shown<'t>(event: EventView<'t>) -> (&'t str, bool) {
     }
 }
 
-/// The events of the page, in a line each: the name or the text, whether it is an end, and its parent.
+/// The events of the page, one in each line: the name or the text, whether it is an end, and its parent.
 const EVENTS: &str = "\
     (\"\", false, None)\n\
     (\"html\", false, None)\n\
@@ -168,6 +173,7 @@ fn has_events(tree: &Tree, wanted: &str) -> bool {
     rest.is_empty()
 }
 
+/// A page has its events.
 #[test]
 fn a_page(rt: HostRuntime) -> Result<(), Fail> {
     let tree = made(rt.alloc(), PAGE)?;
@@ -175,17 +181,22 @@ fn a_page(rt: HostRuntime) -> Result<(), Fail> {
     Ok(())
 }
 
+/// An element with a text.
 const ONE: &str = "start p|text a|end|";
 
+/// The same element, whose text is added in parts, some of them empty.
 const IN_PARTS: &str = "start p|text |text a|text |end|";
 
+/// The element with the text `ab`, added in two parts.
 const JOINED: &str = "start p|text a|text b|end|";
 
+/// The element with an attribute.
 const NAMED: &str = "start p id=x|text a|end|";
 
+/// The element with a comment after it.
 const LONGER: &str = "start p|text a|end|comment a|";
 
-/// Whether the trees of these calls differ first at this place, and are the same where there is none.
+/// Whether the trees of these calls first differ at this event, or are equal if there is none.
 fn differ_at(alloc: Global, one: &str, other: &str, place: Option<u32>) -> bool {
     match made(alloc, one) {
         Ok(one) => differs_at(alloc, &one, other, place),
@@ -193,7 +204,7 @@ fn differ_at(alloc: Global, one: &str, other: &str, place: Option<u32>) -> bool 
     }
 }
 
-/// The same of a tree and that of these calls.
+/// As `differ_at`, for a tree and that of these calls.
 fn differs_at(alloc: Global, one: &Tree, other: &str, place: Option<u32>) -> bool {
     match made(alloc, other) {
         Ok(other) => one.first_other(&other) == place && one.same(&other) == place.is_none(),
@@ -201,6 +212,7 @@ fn differs_at(alloc: Global, one: &Tree, other: &str, place: Option<u32>) -> boo
     }
 }
 
+/// Trees differ first at the event listed.
 #[test]
 fn first_differences(rt: HostRuntime) {
     let alloc = rt.alloc();
@@ -211,7 +223,7 @@ fn first_differences(rt: HostRuntime) {
     expect(&rt, differ_at(alloc, LONGER, ONE, Some(3)), ONE);
 }
 
-/// Adds an attribute, and says whether it was added. A fourth is refused as memory is.
+/// Adds an attribute, and gives whether it was added. A fourth fails with `OutOfMemory`.
 fn add(alloc: Global, attrs: &mut Attrs, name: &str, value: &str) -> Result<bool, OutOfMemory> {
     if attrs.len() > 2 {
         return Err(OutOfMemory);
@@ -221,7 +233,7 @@ fn add(alloc: Global, attrs: &mut Attrs, name: &str, value: &str) -> Result<bool
     attrs.add(name, value)
 }
 
-/// Asserts that a name is added once, and that nothing is left once all attributes are taken away.
+/// Asserts that a name is added once, and that nothing is left once all attributes are removed.
 fn expect_once(rt: &impl Abort, alloc: Global, attrs: &mut Attrs) {
     expect(rt, add(alloc, attrs, "id", "x") == Ok(true), "id=x");
     expect(rt, add(alloc, attrs, "class", "") == Ok(true), "class=");
@@ -233,13 +245,14 @@ fn expect_once(rt: &impl Abort, alloc: Global, attrs: &mut Attrs) {
     expect(rt, attrs.len() == 0, "none");
 }
 
+/// A name is added once.
 #[test]
 fn a_name_once(rt: HostRuntime) {
     let mut attrs = Attrs::new(rt.alloc());
     expect_once(&rt, rt.alloc(), &mut attrs);
 }
 
-/// A tag `<br/>` in the bytes from 3 to 8. Its name and attributes are put into `tag`.
+/// A tag `<br/>` in the bytes from 3 to 8. Its name and attributes are written into `tag`.
 fn placed_tag(alloc: Global, tag: &mut Tag) -> Result<Placed, AllocError> {
     let name = OwnedText {
         text: String::from_str(alloc, "br")?,
@@ -266,17 +279,18 @@ fn is_spanned(spanned: Spanned) -> bool {
     spanned.from == 3 && spanned.to == 8 && is_closed_tag(&spanned.token)
 }
 
-/// Whether what is placed is, with its tag, such a token.
+/// Whether the placed token is, with its tag, such a token.
 fn is_placed(placed: Placed, tag: Tag) -> bool {
     is_spanned(placed.spanned(tag))
 }
 
-/// Asserts the name of a tag, and that with it what is placed is such a token.
+/// Asserts the name of a tag, and that the placed token is, with it, such a token.
 fn expect_placed(rt: &impl Abort, placed: Placed, tag: Tag) {
     assert!(rt; tag.name.as_str() == "br");
     assert!(rt; is_placed(placed, tag));
 }
 
+/// A token has its place.
 #[test]
 fn a_tag_in_its_place(rt: HostRuntime) {
     let mut tag = Tag::new(rt.alloc());
@@ -286,6 +300,7 @@ fn a_tag_in_its_place(rt: HostRuntime) {
     }
 }
 
+/// `OutOfMemory` converts to each fault.
 #[test]
 fn want_of_memory_is_a_fault(rt: HostRuntime) {
     assert!(rt; ScanFault::from(OutOfMemory) == ScanFault::OutOfMemory);

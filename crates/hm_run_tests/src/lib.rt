@@ -1,4 +1,4 @@
-//! Tests of what a run is given and what it leaves: words, stores and sinks.
+//! Tests of a run's inputs and outputs: arguments, stores and sinks.
 #![tactic(auto)]
 
 #[cfg(test)]

@@ -1,9 +1,9 @@
-//! What several of the tests make or compare: words of a call, paths, files of a store.
+//! What several of the tests make or compare: arguments of a call, paths, files of a store.
 use hm_base::OwnedText;
 use hm_store::MemStore;
 use std::alloc::{AllocError, Global};
 
-/// The words of a text, with one space between each two.
+/// The words of a text, which are separated by single spaces.
 pub(crate) fn worded(alloc: Global, text: &str) -> Result<Vec<OwnedText>, AllocError> {
     let mut words = Vec::new(alloc);
     for word in text.split(' ') {

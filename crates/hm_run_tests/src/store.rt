@@ -13,6 +13,7 @@ use std::process::Abort;
 use std::rt::Files;
 use std::{env, fs, io};
 
+/// Files are written.
 #[test]
 fn files_are_written(rt: HostRuntime) {
     let mut store = MemStore::new(rt.alloc());
@@ -23,6 +24,7 @@ fn files_are_written(rt: HostRuntime) {
     assert!(rt; holds(&store, "cert", None));
 }
 
+/// A file is replaced.
 #[test]
 fn a_file_is_replaced(rt: HostRuntime) {
     let mut store = MemStore::new(rt.alloc());
@@ -39,6 +41,7 @@ fn expect_loaded(rt: &impl Abort, alloc: Global, store: &mut MemStore, limit: u3
     }
 }
 
+/// A load reads at most one byte more than its limit.
 #[test]
 fn a_load_takes_one_byte_more_than_its_limit(rt: HostRuntime) {
     let mut store = MemStore::new(rt.alloc());
@@ -50,7 +53,7 @@ fn a_load_takes_one_byte_more_than_its_limit(rt: HostRuntime) {
     expect_loaded(&rt, rt.alloc(), &mut store, 0, "h");
 }
 
-/// Asserts what a load of `page` with this limit gives over expected bytes, and whether it is told that they are the same.
+/// Asserts what a load of `page` with this limit gives over expected bytes, and whether it finds them equal.
 fn expect_loaded_over(
     rt: &impl Abort,
     store: &mut MemStore,
@@ -69,6 +72,7 @@ fn expect_loaded_over(
     );
 }
 
+/// A load over expected bytes says whether they are equal.
 #[test]
 fn a_load_over_expected_bytes_tells_whether_they_are_the_same(rt: HostRuntime) {
     let mut store = MemStore::new(rt.alloc());
@@ -94,13 +98,14 @@ fn a_load_over_expected_bytes_tells_whether_they_are_the_same(rt: HostRuntime) {
     }
 }
 
-/// Opens a file of a store for reading: a failure counts as one more fault, and another answer as none.
+/// Opens a file of a store for reading. A failure counts as one more fault, and another answer as none.
 fn open_counted(store: &mut MemStore, name: &str) -> Result<bool, Failed>
     ensures { store.new.calls.faults ≡ counted store.old.calls.faults result }
 {
     store.open_in(name)
 }
 
+/// A file that isn't there is no fault.
 #[test]
 fn an_absent_file_is_no_fault(rt: HostRuntime) {
     let mut store = MemStore::new(rt.alloc());
@@ -108,7 +113,7 @@ fn an_absent_file_is_no_fault(rt: HostRuntime) {
     assert!(rt; open_counted(&mut store, "none") == Ok(false));
 }
 
-/// Takes a piece of a store's file: a failure counts as one more fault, and another answer as none.
+/// Pulls a piece of a store's file. A failure counts as one more fault, and another answer as none.
 fn pull_counted(store: &mut MemStore, into: &mut [u8]) -> Result<usize, Failed>
     requires { is_some store.old.reading ≡ true }
     ensures faults { store.new.calls.faults ≡ counted store.old.calls.faults result }
@@ -127,6 +132,7 @@ fn expect_pulls(rt: &impl Abort, store: &mut MemStore) {
     assert!(rt; piece == *b"ll");
 }
 
+/// A pull that is listed to fail does, and the next one reads the same bytes.
 #[test]
 fn a_listed_pull_fails_and_stays_in_place(rt: HostRuntime) {
     let mut store = MemStore::new(rt.alloc());
@@ -135,7 +141,7 @@ fn a_listed_pull_fails_and_stays_in_place(rt: HostRuntime) {
     expect_pulls(&rt, &mut store);
 }
 
-/// A call on the store that fails, whether a load succeeds then, and a write after it, and the file that is left.
+/// A call on the store that fails, whether a load then succeeds, and a write after it, and the file that is left.
 type Left = (u32, bool, bool, Option<&'static str>);
 
 /// Whether a load of a store, and a write after it, end so.
@@ -145,7 +151,7 @@ fn is_left(alloc: Global, store: &mut MemStore, row: &Left) -> bool {
     loaded == row.1 && written == row.2 && holds(store, "out", row.3)
 }
 
-/// Asserts what is left where a call fails.
+/// Asserts what is left if a call fails.
 fn expect_left(rt: &impl Abort, alloc: Global, row: &Left) {
     let mut store = MemStore::new(alloc);
     assert!(rt; store.add("page", b"hello").is_ok());
@@ -164,6 +170,7 @@ const CALLS: [Left; 7] = [
     (7, true, true, Some("world")),
 ];
 
+/// Each call fails in turn.
 #[test]
 fn each_call_fails_in_turn(rt: HostRuntime) {
     for row in &CALLS {
@@ -171,7 +178,7 @@ fn each_call_fails_in_turn(rt: HostRuntime) {
     }
 }
 
-/// Puts bytes to a sink: a failure counts as one more fault, and another answer as none.
+/// Puts bytes to a sink. A failure counts as one more fault, and another answer as none.
 fn put_counted(sink: &mut MemSink, bytes: &[u8]) -> Result<(), Failed>
     ensures { sink.new.calls.faults ≡ counted sink.old.calls.faults result }
 {
@@ -186,6 +193,7 @@ fn expect_puts(rt: &impl Abort, sink: &mut MemSink) {
     assert!(rt; sink.bytes() == b"length 23\n".as_slice());
 }
 
+/// A put that is listed to fail changes nothing.
 #[test]
 fn a_listed_put_changes_nothing(rt: HostRuntime) {
     let mut sink = MemSink::new(rt.alloc());
@@ -193,7 +201,7 @@ fn a_listed_put_changes_nothing(rt: HostRuntime) {
     expect_puts(&rt, &mut sink);
 }
 
-/// Whether a store has no file at a path at first, and what is written there is read again.
+/// Whether a store has no file at a path at first, and what is written there can be read.
 fn is_kept<S: Store>(alloc: Global, store: &mut S, path: &str) -> bool {
     let is_absent = load(alloc, store, path, 100).is_err();
     let is_written = write_file(store, path, b"hello").is_ok();
@@ -203,13 +211,14 @@ fn is_kept<S: Store>(alloc: Global, store: &mut S, path: &str) -> bool {
     }
 }
 
-/// Asserts that a real file is written and read. It is removed.
+/// Asserts that a real file is written and read. It is removed after that.
 fn expect_kept(rt: &(impl Files + Abort), alloc: Global, path: &str) {
     let is_kept = is_kept(alloc, &mut FileStore::new(alloc, rt), path);
     assert!(rt; fs::remove_file(rt, path).is_ok());
     assert!(rt; is_kept);
 }
 
+/// A real file is written and read.
 #[test]
 fn a_real_file_is_written_and_read(rt: HostRuntime) -> io::Result<()> {
     let folder = env::temp_dir(&rt)?;
@@ -233,6 +242,7 @@ impl Write for Full {
     }
 }
 
+/// Bytes go to the writer.
 #[test]
 fn bytes_go_to_the_writer(rt: HostRuntime) {
     let mut bytes = Vec::new(rt.alloc());
@@ -243,6 +253,7 @@ fn bytes_go_to_the_writer(rt: HostRuntime) {
     assert!(rt; bytes.as_slice() == b"length 23\n".as_slice());
 }
 
+/// A full writer takes no bytes.
 #[test]
 fn a_full_writer_takes_no_bytes(rt: HostRuntime) {
     let mut full = WriteSink::new(Full);
@@ -250,7 +261,8 @@ fn a_full_writer_takes_no_bytes(rt: HostRuntime) {
     assert!(rt; full.put(b"x") == Err(Failed));
 }
 
-/// A file that a signal interrupts at the first call to read it, and that fails at the third. It gives `x` at the second, and `y` from the fourth on.
+/// A file that a signal interrupts at the first call to read it, and that fails at the third. It gives `x` at the
+/// second, and `y` from the fourth on.
 #[derive(Drop)]
 struct Interrupted {
     calls: u32,

@@ -1,10 +1,11 @@
-//! What the words of a call ask for.
+//! What the arguments of a call ask for.
 use crate::made::worded;
 use hm_base::{SpellRules, TreeOptions};
 use hm_words::{Asked, Origin, WordsFault, Work};
 use std::alloc::{AllocError, Global};
 use std::process::Abort;
 
+/// No rewrites.
 const NO_OPTIONS: TreeOptions = TreeOptions {
     doctype: false,
     comments: false,
@@ -15,6 +16,7 @@ const NO_OPTIONS: TreeOptions = TreeOptions {
     conservative: false,
 };
 
+/// The rules without any flag.
 const NO_RULES: SpellRules = SpellRules {
     omit: false,
     unquote: false,
@@ -59,7 +61,7 @@ fn is_command(asked: &Asked<'_>, wanted: &[&str]) -> bool {
     }
 }
 
-/// Words of a text, and the command, the options and the rules that they ask for.
+/// The arguments in a text, and the command, the options and the rules that they ask for.
 struct Request {
     text: &'static str,
     command: &'static [&'static str],
@@ -68,7 +70,7 @@ struct Request {
     sparse: bool,
 }
 
-/// Whether the words of a text ask for this.
+/// Whether the arguments in a text ask for this.
 fn asks(alloc: Global, request: &Request) -> Result<bool, AllocError> {
     let words = worded(alloc, request.text)?;
     match Asked::read(alloc, words.as_slice()) {
@@ -82,7 +84,7 @@ fn asks(alloc: Global, request: &Request) -> Result<bool, AllocError> {
     }
 }
 
-/// Asserts whether the words of a text ask for this.
+/// Asserts whether the arguments in a text ask for this.
 fn expect_asked(rt: &impl Abort, alloc: Global, request: &Request, wanted: bool) {
     match asks(alloc, request) {
         Ok(asks) => assert!(rt; asks == wanted, "{}", request.text),
@@ -90,32 +92,38 @@ fn expect_asked(rt: &impl Abort, alloc: Global, request: &Request, wanted: bool)
     }
 }
 
+/// The options of `--comments`.
 const COMMENTED: TreeOptions = TreeOptions {
     comments: true,
     ..NO_OPTIONS
 };
 
+/// The options of `--space --conservative`.
 const SPACED: TreeOptions = TreeOptions {
     space: true,
     conservative: true,
     ..NO_OPTIONS
 };
 
+/// The rules of `--omit`.
 const OMITTED: SpellRules = SpellRules {
     omit: true,
     ..NO_RULES
 };
 
+/// The rules of a fragment with `--omit`.
 const FRAMED: SpellRules = SpellRules {
     frame: true,
     ..OMITTED
 };
 
+/// The rules of `--omit --unquote`.
 const SPELLED: SpellRules = SpellRules {
     unquote: true,
     ..OMITTED
 };
 
+/// The rules of `--omit --unquote --tight --ascii`.
 const ALL_RULES: SpellRules = SpellRules {
     tight: true,
     ascii: true,
@@ -175,6 +183,7 @@ const REQUESTS: [Request; 7] = [
     },
 ];
 
+/// Arguments ask for their requests.
 #[test]
 fn requests(rt: HostRuntime) {
     for request in &REQUESTS {
@@ -191,12 +200,13 @@ const NOT_ASKED: Request = Request {
     sparse: false,
 };
 
+/// Arguments ask for no other request.
 #[test]
 fn other_requests(rt: HostRuntime) {
     expect_asked(&rt, rt.alloc(), &NOT_ASKED, false);
 }
 
-/// Whether the words of a text ask for attributes in the order that is shortest.
+/// Whether the arguments in a text ask for attributes in the order that is shortest.
 fn is_ordered(alloc: Global, text: &str) -> Result<bool, AllocError> {
     let words = worded(alloc, text)?;
     match Asked::read(alloc, words.as_slice()) {
@@ -205,6 +215,7 @@ fn is_ordered(alloc: Global, text: &str) -> Result<bool, AllocError> {
     }
 }
 
+/// Only `--order` asks for attributes in order.
 #[test]
 fn order(rt: HostRuntime) -> Result<(), AllocError> {
     let alloc = rt.alloc();
@@ -213,7 +224,7 @@ fn order(rt: HostRuntime) -> Result<(), AllocError> {
     Ok(())
 }
 
-/// A text in each line whose words have no meaning. That of the last is empty.
+/// In each line arguments without a meaning. The last line is empty.
 const NO_REQUESTS: &str = "\
     tree none page --conservative\n\
     minify none page out cert --conservative\n\
@@ -250,7 +261,7 @@ const NO_REQUESTS: &str = "\
     measure none 0 1 --order\n\
     \n";
 
-/// Whether the words of a text have no meaning.
+/// Whether the arguments in a text have no meaning.
 fn is_meaningless(alloc: Global, text: &str) -> bool {
     match worded(alloc, text) {
         Ok(words) => matches!(Asked::read(alloc, words.as_slice()), Err(WordsFault::Usage)),
@@ -258,11 +269,12 @@ fn is_meaningless(alloc: Global, text: &str) -> bool {
     }
 }
 
-/// Asserts that the words of a text have no meaning.
+/// Asserts that the arguments in a text have no meaning.
 fn expect_meaningless(rt: &impl Abort, alloc: Global, text: &str) {
     assert!(rt; is_meaningless(alloc, text), "{text}");
 }
 
+/// Arguments without a meaning are refused.
 #[test]
 fn no_requests(rt: HostRuntime) {
     for text in NO_REQUESTS.lines() {
@@ -270,6 +282,7 @@ fn no_requests(rt: HostRuntime) {
     }
 }
 
+/// No arguments have no meaning.
 #[test]
 fn no_words(rt: HostRuntime) {
     let answer = Asked::read(rt.alloc(), &[]);

@@ -1,4 +1,4 @@
--- What a unit has of its own, copied.
+-- A copy of a unit's own text.
 use Rattle.std.specs.Prelude.{ℕ, List, encode_utf8, string_bytes}
 use Rattle.hm_event_parts.specs.Parts.{comment_bytes}
 use Rattle.hm_shortest.specs.declared.owned.UnitTextBuf.{UnitTextBuf}

@@ -4,7 +4,7 @@ ghost use Rattle.hm_shortest.specs.CopiedRuns.{IsCopied};
 
 use hm_graph::Step;
 
-/// Whether a step has nothing to choose, and its hop from a place copies one byte and leads to the same place.
+/// Whether each state of a step has one hop, and the hop from this place copies one byte and leads to the same place.
 #[inline(always)]
 pub(crate) fn is_copied(step: &Step, place: Option<usize>) -> bool
     ensures { IsTrue result → IsCopied step.now place }

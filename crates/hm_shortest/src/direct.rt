@@ -1,4 +1,4 @@
-//! The shortest text of a tree, written while the steps are found, for a certificate that leaves out layers with nothing to
+//! The shortest text of a tree, written while the steps are found, for a certificate that omits layers with nothing to
 //! choose. Steps are kept only from one layer of one state to the next.
 ghost use Rattle.std.specs.Prelude.{◌≡◌, ◌<◌, ◌+◌, ◌-◌, ◌^◌, ◌++◌, ◌∷◌, [], Bool, List, None, Option, length, map, IfOk, IsSome, IsTrue, OnOk};
 ghost use Rattle.std.specs.Str.{IsAscii};
@@ -29,22 +29,22 @@ use hm_refs::laws::every_table;
 use hm_tree::Tree;
 use std::alloc::Global;
 
-/// How many steps are too many to keep. A graph takes less memory for each, so a tree with so many of them is written by its
-/// graph.
+/// Fewer steps than this are kept. A graph takes less memory for each, so a tree with more of them in a row is written
+/// from its graph.
 const FEW: usize = 1 << 13;
 
-/// How many bytes are too many: memory then counts as refused.
+/// At this total, in bytes, the direct writer gives up.
 const MOST: u64 = 1 << 62;
 
-/// What is added to the bytes so far before a price is taken from them.
+/// Added to the bytes so far before a price is subtracted from them.
 const BASE: u64 = 1 << 62;
 
-/// Why the text isn't written so.
+/// Why the direct writer gave up.
 #[derive(Drop)]
 pub(crate) enum Stop {
-    /// There is no way over some steps, or they are too many to keep, or have too many bytes.
+    /// There is no way over some steps, there are too many to keep, or they write too many bytes.
     Closed,
-    /// Memory was refused.
+    /// No memory could be allocated.
     OutOfMemory,
 }
 
@@ -56,27 +56,28 @@ impl From<OutOfMemory> for Stop {
     }
 }
 
-/// How far the shortest text is written.
+/// The part of the shortest text that is written.
 #[derive(Drop)]
 pub(crate) struct DirectWay {
     alloc: Global,
     out: Vec<u8>,
-    /// How many bytes the text has, by its steps.
+    /// The length of the text in bytes, by its steps.
     total: u64,
-    /// The rows of the certificate: how much less each price is than `BASE` and all bytes up to the next layer of one state.
+    /// The rows of the certificate. Each price is stored as its difference from `BASE` and all bytes up to the next
+    /// layer of one state.
     rows: Prices,
-    /// Whether a certificate leaves out the first layer by its step, where there was one.
+    /// Whether a certificate omits the first layer, as its step says; None before the first step.
     first: Option<bool>,
     /// The steps since the last layer of one state.
     stretch: Vec<Kept>,
     /// The prices of their layers, those of the last one first.
     found: Prices,
     spare: Vec<u64>,
-    /// How many states the layer has that was reached.
+    /// The number of states of the last layer that was reached.
     last: usize,
 }
 
-/// Whether there is one hop, which copies one byte and leads to one state.
+/// Whether there is exactly one hop, and it copies one byte and leads to the only state.
 #[inline(always)]
 fn copies_one(step: &Step) -> bool
     ensures { IsTrue result → CopiesOne step.now }
@@ -87,7 +88,7 @@ fn copies_one(step: &Step) -> bool
     }
 }
 
-/// Appends a step, and what its unit has of its own.
+/// Appends a step and its unit's own text.
 fn push_kept(
     alloc: Global,
     stretch: &mut Vec<Kept>,
@@ -113,7 +114,7 @@ fn append(out: &mut Vec<u8>, bytes: &[u8]) -> Result<(), OutOfMemory>
 }
 
 impl DirectWay {
-    /// Nothing is written.
+    /// Nothing is written yet.
     fn new(alloc: Global) -> DirectWay
         ensures stretch { result.stretch.items ≡ [] }
         ensures first { result.first ≡ None }
@@ -132,7 +133,7 @@ impl DirectWay {
         }
     }
 
-    /// Notes whether the first layer is left out, where this is its step.
+    /// Notes whether the first layer is omitted, if this is its step.
     #[inline(always)]
     fn begin(&mut self, step: &Step)
         ensures place { place_of self.new ≡ place_of self.old }
@@ -174,7 +175,7 @@ impl DirectWay {
         Ok(())
     }
 
-    /// Writes the steps that are kept, where the next step has one state.
+    /// Writes the steps that are kept, if the next step has one state.
     #[inline(always)]
     fn settle_before(&mut self, table: &Table, step: &Step) -> Result<(), Stop>
         ensures first { OnOk result (self.new.first ≡ self.old.first) }
@@ -186,7 +187,7 @@ impl DirectWay {
         Ok(())
     }
 
-    /// Writes what the only hop writes of a unit.
+    /// Writes what the only hop of a step writes of its unit.
     #[inline(always)]
     fn put(&mut self, table: &Table, hop: Hop, own: UnitText) -> Result<(), Stop>
         requires named { HasName table.now.entries hop.piece }
@@ -217,7 +218,7 @@ impl DirectWay {
         Ok(())
     }
 
-    /// Goes over a step.
+    /// Takes the next step.
     #[inline(always)]
     fn go_over(&mut self, table: &Table, step: &Step, own: UnitText) -> Result<(), Stop>
         requires named { IsNamedStep table.now.entries step.now }
@@ -230,7 +231,7 @@ impl DirectWay {
         Ok(())
     }
 
-    /// Goes over a step: writes it, where it has one hop to one state and no step is kept, and keeps it otherwise.
+    /// Writes a step that has one hop to one state, if no step is kept. Keeps it otherwise.
     #[inline(always)]
     fn put_or_keep(&mut self, table: &Table, step: &Step, own: UnitText) -> Result<(), Stop>
         requires named { IsNamedStep table.now.entries step.now }
@@ -250,7 +251,7 @@ impl DirectWay {
         Ok(())
     }
 
-    /// Copies these bytes.
+    /// Copies these bytes to the text.
     #[inline(always)]
     fn copy(&mut self, bytes: &[u8]) -> Result<(), Stop>
         ensures first { OnOk result (self.new.first ≡ self.old.first) }
@@ -265,7 +266,7 @@ impl DirectWay {
         Ok(())
     }
 
-    /// Goes over the steps of characters with these bytes, which copy them.
+    /// Takes the steps of characters with these bytes. The steps copy the bytes.
     #[inline(always)]
     fn go_over_copied(&mut self, step: &Step, bytes: &[u8]) -> Result<(), Stop>
         requires stretch { self.old.stretch.items ≡ [] }
@@ -279,7 +280,7 @@ impl DirectWay {
         Ok(())
     }
 
-    /// Goes over the steps of characters with these bytes, one by one.
+    /// Takes the steps of characters with these bytes, one by one.
     #[inline(never)]
     fn go_over_each(&mut self, table: &Table, step: &Step, bytes: &[u8]) -> Result<(), Stop>
         requires named { IsNamedStep table.now.entries step.now }
@@ -317,7 +318,7 @@ impl Visitor for DirectWay {
     }
 }
 
-/// Appends the lines of rows that are kept by how much less their prices are than `top`.
+/// Appends the lines of the rows that are kept, whose prices are stored as differences from `top`.
 fn put_rows(
     text: &mut Vec<u8>,
     rows: &Prices,
@@ -334,7 +335,7 @@ fn put_rows(
     Ok(())
 }
 
-/// Appends the line of the first row, where a certificate leaves out the first layer by its step.
+/// Appends the line of the first row, if the certificate omits the first layer by its step.
 fn put_first(text: &mut Vec<u8>, first: Option<bool>, total: u64) -> Result<(), OutOfMemory>
     requires { total < 2 ^ 63 }
     ensures { OnOk result (text.new.items ≡ text.old.items ++ row_lines (first_line first total)) }
@@ -345,7 +346,7 @@ fn put_first(text: &mut Vec<u8>, first: Option<bool>, total: u64) -> Result<(), 
     }
 }
 
-/// The text of the certificate of a way that is written whole.
+/// The text of the certificate, once the whole text is written.
 fn write_lines(alloc: Global, way: &DirectWay, rules: SpellRules) -> Result<Vec<u8>, OutOfMemory>
     requires { way.now.total < 2 ^ 63 }
     ensures { IfOk result (λ text. text.items ≡ certificate_text Sparse rules (rows_in way.now)) }
@@ -360,7 +361,7 @@ fn write_lines(alloc: Global, way: &DirectWay, rules: SpellRules) -> Result<Vec<
     Ok(text)
 }
 
-/// Writes a tree shortest, and the sparse certificate of that.
+/// Writes the shortest text of a tree and its sparse certificate.
 pub(crate) fn write_directly(
     alloc: Global,
     tree: &Tree,

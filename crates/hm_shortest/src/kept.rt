@@ -3,7 +3,7 @@ use crate::owned::UnitTextBuf;
 use hm_graph::Step;
 use std::marker::Model;
 
-/// A step that isn't gone over yet, and what its unit has of its own.
+/// A step that isn't written yet, and its unit's own text.
 #[derive(Drop)]
 pub(crate) struct Kept {
     pub(crate) step: Step,

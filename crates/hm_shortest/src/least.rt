@@ -15,7 +15,7 @@ use hm_refs::Table;
 use hm_tree::Tree;
 use std::alloc::Global;
 
-/// How many bytes the shortest text of a tree has, by all edges of its graph.
+/// The length in bytes of the shortest text of a tree, by all edges of its graph.
 pub fn least_price(
     alloc: Global,
     tree: &Tree,

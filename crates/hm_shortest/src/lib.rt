@@ -1,5 +1,5 @@
-//! The writer: a tree written shortest, with its certificate. Prices and choices are found from the last layer to the first, then
-//! the text of the first least path is written.
+//! The writer: the shortest text of a tree, with its certificate. Prices and choices are found from the last layer to
+//! the first, then the text of the first least way is written.
 #![tactic(auto)]
 
 mod copied;

@@ -15,16 +15,16 @@ use hm_refs::laws::every_table;
 use hm_tree::Tree;
 use std::alloc::Global;
 
-/// A tree's shortest text, and the text of the certificate of its least prices.
+/// The shortest text of a tree, and the text of the certificate of its least prices.
 #[derive(Drop)]
 pub struct Minified {
     pub out: Vec<u8>,
     pub certificate: Vec<u8>,
-    /// How many layers the tree's graph has: one more than its units.
+    /// The number of layers of the tree's graph: one more than its units.
     pub layers: usize,
 }
 
-/// Writes a tree shortest by the graph of a format, from its last layer on.
+/// Writes the shortest text of a tree with the graph of a format, from its last layer on.
 fn write_by_graph(
     alloc: Global,
     tree: &Tree,
@@ -47,7 +47,8 @@ fn write_by_graph(
     })
 }
 
-/// The same. Where the certificate leaves out layers with nothing to choose, the text is written while the graph is found.
+/// Writes the shortest text of a tree and its certificate. If the certificate omits layers with nothing to choose, the
+/// text is written while the graph is found.
 fn write_shortest(
     alloc: Global,
     tree: &Tree,
@@ -68,8 +69,9 @@ fn write_shortest(
     }
 }
 
-/// Writes a tree shortest by a table and these rules, and certifies that in a format. The text is the same in each format. What
-/// is written of a settled tree parses to it, is the shortest of its spellings, and is a certificate that can be read and shows it.
+/// Writes the shortest text of a tree by a table and these rules, and its certificate in a format. The text is the same
+/// in each format. If the tree is settled, the text parses to it and is the shortest of its spellings, and the
+/// certificate can be read and shows it.
 pub fn minify_tree(
     alloc: Global,
     tree: &Tree,

@@ -1,4 +1,4 @@
-//! What a unit has of its own, copied.
+//! A copy of a unit's own text.
 ghost use Rattle.std.specs.Prelude.{◌≡◌, IfOk};
 ghost use Rattle.hm_event_parts.specs.UnitText.{own_text};
 ghost use Rattle.hm_shortest.specs.UnitTextBuf.{owned_text};
@@ -7,7 +7,7 @@ use hm_base::OutOfMemory;
 use hm_event_parts::UnitText;
 use std::alloc::Global;
 
-/// As `UnitText`, with a text of its own.
+/// The text of a `UnitText`, owned.
 #[derive(Drop)]
 pub(crate) enum UnitTextBuf {
     Bytes { text: String },
@@ -16,7 +16,7 @@ pub(crate) enum UnitTextBuf {
 }
 
 impl UnitTextBuf {
-    /// The same.
+    /// Copies the text of a unit.
     pub(crate) fn new(alloc: Global, own: UnitText) -> Result<UnitTextBuf, OutOfMemory>
         ensures { IfOk result (λ owned. owned_text owned ≡ own_text own.entry) }
     {
@@ -31,7 +31,7 @@ impl UnitTextBuf {
         })
     }
 
-    /// The character, where it is one.
+    /// The character, if the unit is one.
     pub(crate) fn character(&self) -> Option<char> {
         match self {
             UnitTextBuf::Character { c } => Some(*c),
@@ -39,7 +39,7 @@ impl UnitTextBuf {
         }
     }
 
-    /// The same, lent.
+    /// Borrows the text.
     pub(crate) fn lent(&self) -> UnitText<'_>
         ensures { own_text result ≡ owned_text self.now }
     {

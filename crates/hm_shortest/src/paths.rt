@@ -19,19 +19,19 @@ use hm_graph::{Cursor, Graph, Hop, Step};
 use hm_refs::Table;
 use std::alloc::Global;
 
-/// How far the way is written.
+/// The part of the first way that is written.
 #[derive(Drop)]
 struct WrittenWay<'c> {
     out: Vec<u8>,
     /// The layer that was reached.
     at: Cursor,
-    /// The place of the state among those of its layer, None where the way has ended.
+    /// The index of the state in its layer. None if the way has ended.
     place: Option<usize>,
-    /// The choices of the steps that are left, those of the next one last.
+    /// The choices of the steps that are left. Those of the next step are last.
     choices: &'c [u8],
 }
 
-/// The choices after the step of a layer, and those of that step.
+/// Splits the choices: those of the steps after a layer's step, and those of that step.
 #[inline(always)]
 fn cut_choices<'c>(choices: &'c [u8], graph: &Graph, at: Cursor) -> (&'c [u8], &'c [u8])
     requires place { IsPlace graph.now at }
@@ -47,7 +47,7 @@ fn cut_choices<'c>(choices: &'c [u8], graph: &Graph, at: Cursor) -> (&'c [u8], &
     choices.split_at(choices.len() - step.width())
 }
 
-/// The choice for a place: 0 where there is nothing to choose.
+/// The choice of the state with this index: 0 if there is nothing to choose.
 #[inline(always)]
 fn choice_at(choices: &[u8], place: usize) -> usize
     ensures { result ≡ slice_index choices.now place }
@@ -58,7 +58,7 @@ fn choice_at(choices: &[u8], place: usize) -> usize
     }
 }
 
-/// The hop at a place.
+/// The hop with this index.
 #[inline(always)]
 pub(crate) fn hop_at(hops: &[Hop], place: usize) -> Option<Hop>
     ensures { result ≡ slice_get hops.now place }
@@ -69,7 +69,7 @@ pub(crate) fn hop_at(hops: &[Hop], place: usize) -> Option<Hop>
     }
 }
 
-/// The hop that is taken from a place, by the choices of the step.
+/// The hop from the state with this index that the choices of the step take.
 #[inline(always)]
 fn taken_at(step: &Step, choices: &[u8], place: usize) -> Option<Hop>
     ensures taken { (after : Row) → choices.now ≡ step_choices after step.now → result ≡ hop_taken after step.now place }
@@ -84,7 +84,7 @@ fn taken_at(step: &Step, choices: &[u8], place: usize) -> Option<Hop>
     hop_at(step.hops(place), choice_at(choices, place))
 }
 
-/// The hop that is taken, where the way hasn't ended.
+/// The hop that is taken from the state with this index, if the way hasn't ended.
 #[inline(always)]
 fn next_hop(step: &Step, choices: &[u8], place: Option<usize>) -> Option<Hop>
     ensures taken { (after : Row) → choices.now ≡ step_choices after step.now → result ≡ option_and_then (hop_taken after step.now) place }
@@ -96,7 +96,7 @@ fn next_hop(step: &Step, choices: &[u8], place: Option<usize>) -> Option<Hop>
     }
 }
 
-/// Writes what a hop writes of a unit, and gives the place that it leads to.
+/// Writes what a hop writes of a unit, and gives the index of the state that it leads to.
 #[inline(always)]
 fn put_hop(
     out: &mut Vec<u8>,
@@ -132,7 +132,7 @@ fn take(way: &mut WrittenWay, graph: &Graph, own: UnitText) -> Result<(), OutOfM
     Ok(())
 }
 
-/// Writes the characters that a text begins with, as long as the same step copies one byte, and gives the rest of the text.
+/// Writes the first characters of a text, as long as the same step copies one byte, and gives the rest of the text.
 fn copy_alike<'t>(
     way: &mut WrittenWay,
     graph: &Graph,
@@ -174,7 +174,7 @@ fn take_char<'t>(way: &mut WrittenWay, graph: &Graph, text: &'t str) -> Result<&
     Ok(rest.as_str())
 }
 
-/// Writes some characters that a text begins with, and gives the rest of the text.
+/// Writes the first characters of a text, at least one, and gives the rest of the text.
 fn take_some<'t>(way: &mut WrittenWay, graph: &Graph, text: &'t str) -> Result<&'t str, OutOfMemory>
     requires inside { way.old.at.layer + length (chars text.now) ≤ length graph.now.steps }
     requires some { 0 < length text.now }
@@ -203,7 +203,7 @@ fn take_chars(way: &mut WrittenWay, graph: &Graph, text: &str) -> Result<(), Out
     Ok(())
 }
 
-/// Writes a part.
+/// Writes a part of an event.
 fn take_part(way: &mut WrittenWay, graph: &Graph, part: Part) -> Result<(), OutOfMemory>
     requires inside { way.old.at.layer + length (part_units part) ≤ length graph.now.steps }
     requires on { IsOnWay graph.now way.old }
@@ -231,7 +231,7 @@ fn take_parts(way: &mut WrittenWay, graph: &Graph, parts: &[Part]) -> Result<(),
     Ok(())
 }
 
-/// Writes the first way of a graph, by the choices that were found for it.
+/// Writes the text of the first way of a graph, by the choices that were found for it.
 pub fn write_path(alloc: Global, graph: &Graph, choices: &[u8]) -> Result<Vec<u8>, OutOfMemory>
     requires { choices.now ≡ choices_of graph.now.last graph.now.steps }
     ensures { IfOk result (λ out. out.items ≡ way_from (piece_bytes graph.now.source.table.entries) graph.now.last (units_of graph.now.source.rules graph.now.source.tree) graph.now.steps 0) }

@@ -28,11 +28,11 @@ use std::mem;
 pub struct Plan {
     pub certificate: Vec<u8>,
     pub choices: Vec<u8>,
-    /// `hm_cert::INFINITE` where there is no way.
+    /// `hm_cert::INFINITE` if there is no way.
     pub first: u64,
 }
 
-/// The least price over some hops, and the place of the first hop over which it comes.
+/// The least price over some hops, and the index of the first hop that has it.
 #[derive(Clone, Copy)]
 pub(crate) struct Best {
     pub(crate) price: u64,
@@ -77,7 +77,7 @@ pub(crate) fn find_best(hops: &[Hop], next_row: &[u64]) -> Best
     best
 }
 
-/// Appends a choice, where there is something to choose.
+/// Appends a choice, if there is something to choose.
 fn put_choice(choices: &mut Vec<u8>, forced: bool, place: usize) -> Result<(), OutOfMemory>
     requires { place < 256 }
     ensures { OnOk result (choices.new.items ≡ choices.old.items ++ (if forced then [] else place ∷ [])) }
@@ -88,7 +88,7 @@ fn put_choice(choices: &mut Vec<u8>, forced: bool, place: usize) -> Result<(), O
     Ok(())
 }
 
-/// Finds the prices before a step with one hop for each state, by those after it, in place of what the row held.
+/// Finds the prices before a step with one hop for each state, from those after it. They replace what the row held.
 fn follow_each(step: &Step, next_row: &[u64], row: &mut Vec<u64>) -> Result<(), OutOfMemory>
     requires forced { steps.is_forced step.now ≡ true }
     requires below { AreBelow (2 ^ 63 + 2 ^ 62) (map told next_row.now) }
@@ -102,7 +102,7 @@ fn follow_each(step: &Step, next_row: &[u64], row: &mut Vec<u64>) -> Result<(), 
     Ok(())
 }
 
-/// Finds the prices before a step by those after it, in place of what the row held, and appends the choices.
+/// Finds the prices before a step from those after it, and appends the choices. The prices replace what the row held.
 fn find_row(
     step: &Step,
     next_row: &[u64],
@@ -136,14 +136,14 @@ fn zero_row(alloc: Global, last: usize) -> Result<Vec<u64>, OutOfMemory>
     Ok(row)
 }
 
-/// Whether a certificate of this format leaves out layer `k`.
+/// Whether a certificate of this format omits layer `k`.
 fn is_left_out(format: Format, k: usize, step: &Step) -> bool
     ensures { result ≡ prices.is_left_out format k step.now }
 {
     k != 0 && step.is_left_out(format)
 }
 
-/// Adds the line of a row, where it isn't left out.
+/// Adds the line of a row, unless it is omitted.
 #[inline(always)]
 fn put_line(text: &mut ReversedText, left_out: bool, row: &[u64]) -> Result<(), OutOfMemory>
     ensures { OnOk result (text.new ≡ text.old ++ (if left_out then [] else reverse (row_line (map told row.now)))) }
@@ -151,7 +151,7 @@ fn put_line(text: &mut ReversedText, left_out: bool, row: &[u64]) -> Result<(), 
     if left_out { Ok(()) } else { text.put_line(row) }
 }
 
-/// The first price of a row.
+/// The first price of a row, or `INFINITE` if the row is empty.
 fn first_of(row: &[u64]) -> u64
     ensures { told result ≡ slice_index_or (map told row.now) 0 None }
 {
@@ -161,7 +161,8 @@ fn first_of(row: &[u64]) -> u64
     }
 }
 
-/// What was found from a layer on: the lines of the certificate, from their end, the choices and the prices of the layer.
+/// What is found from a layer on: the lines of the certificate, from their end, the choices and the prices of the
+/// layer.
 #[derive(Drop)]
 struct Back {
     text: ReversedText,
@@ -171,7 +172,7 @@ struct Back {
 }
 
 impl Back {
-    /// From the last layer on.
+    /// What is found at the last layer, which has `last` states.
     fn new(alloc: Global, last: usize) -> Result<Back, OutOfMemory>
         ensures text { IfOk result (λ back. back.text ≡ reverse (row_line (zeros last))) }
         ensures choices { IfOk result (λ back. back.choices.items ≡ []) }
@@ -188,7 +189,7 @@ impl Back {
         })
     }
 
-    /// Goes over the only hop of a step of one state.
+    /// Goes back over the only hop of a step of one state.
     fn follow(&mut self, hop: Hop) -> Result<(), OutOfMemory>
         requires below { AreBelow (2 ^ 63 + 2 ^ 62) (map told self.old.row.items) }
         requires low { hop.len < 2 ^ 62 }
@@ -202,7 +203,7 @@ impl Back {
         Ok(())
     }
 
-    /// Finds the prices before a step, in place of those after it.
+    /// Replaces the prices after a step by those before it, and adds the choices.
     fn find(&mut self, step: &Step) -> Result<(), OutOfMemory>
         requires below { AreBelow (2 ^ 63 + 2 ^ 62) (map told self.old.row.items) }
         requires low { IsLowStep step.now }
@@ -220,7 +221,7 @@ impl Back {
         Ok(())
     }
 
-    /// Goes over the best hop of a step of one state.
+    /// Goes back over the best hop of a step of one state.
     fn choose(&mut self, step: &Step) -> Result<(), OutOfMemory>
         requires one { length step.now ≡ 1 }
         requires below { AreBelow (2 ^ 63 + 2 ^ 62) (map told self.old.row.items) }
@@ -236,7 +237,7 @@ impl Back {
         put_choice(&mut self.choices, step.is_forced(), best.place)
     }
 
-    /// Goes to the layer before this step, without its line.
+    /// Goes back to the layer before this step, without writing its line.
     fn pass(&mut self, step: &Step) -> Result<(), OutOfMemory>
         requires below { AreBelow (2 ^ 63 + 2 ^ 62) (map told self.old.row.items) }
         requires low { IsLowStep step.now }
@@ -254,7 +255,7 @@ impl Back {
         self.find(step)
     }
 
-    /// Goes to layer `k`, the one before this step.
+    /// Goes back to layer `k`, the one before this step.
     fn go_over(&mut self, format: Format, k: usize, step: &Step) -> Result<(), OutOfMemory>
         requires below { AreBelow (2 ^ 63 + 2 ^ 62) (map told self.old.row.items) }
         requires low { IsLowStep step.now }
@@ -269,7 +270,7 @@ impl Back {
         put_line(&mut self.text, left_out, &self.row)
     }
 
-    /// Goes over `count` layers, and writes their lines. Each layer's prices are `len` more than those of the layer
+    /// Goes back over `count` layers and writes their lines. Each layer's prices are `len` more than those of the layer
     /// after it.
     fn write_alike(&mut self, count: u64, len: u64) -> Result<(), OutOfMemory>
         requires below { AreBelow (2 ^ 62) (map told self.old.row.items) }
@@ -285,8 +286,8 @@ impl Back {
         Ok(())
     }
 
-    /// Goes over `count` layers, and writes their lines where they aren't left out. Each layer's prices are `len` more
-    /// than those of the layer after it.
+    /// Goes back over `count` layers and writes their lines unless `left_out`. Each layer's prices are `len` more than
+    /// those of the layer after it.
     fn pass_alike(&mut self, left_out: bool, count: u64, len: u64) -> Result<(), OutOfMemory>
         requires below { AreBelow (2 ^ 62) (map told self.old.row.items) }
         requires low { count * len < 2 ^ 62 }
@@ -301,7 +302,7 @@ impl Back {
         self.write_alike(count, len)
     }
 
-    /// The plan, when the first layer is reached.
+    /// The plan, once the first layer is reached.
     fn finish(self, format: Format, rules: SpellRules) -> Result<Plan, OutOfMemory>
         ensures certificate { IfOk result (λ plan. plan.certificate.items ≡ reverse (self.text ++ reverse (head_lines format rules))) }
         ensures choices { IfOk result (λ plan. plan.choices ≡ self.choices) }
@@ -320,8 +321,8 @@ impl Back {
     }
 }
 
-/// Goes over the step after a layer. Where no state changes its place, it also goes over the equal steps before that
-/// one, but not to the first layer.
+/// Goes back over the step after a layer. If no state changes its place, it also goes back over the equal steps before
+/// that one, but not to the first layer.
 fn go_back(back: &mut Back, graph: &Graph, at: Cursor) -> Result<Cursor, OutOfMemory>
     requires place { IsPlace graph.now at }
     requires inside { at.layer < length graph.now.steps }
@@ -346,7 +347,7 @@ fn go_back(back: &mut Back, graph: &Graph, at: Cursor) -> Result<Cursor, OutOfMe
     Ok(at)
 }
 
-/// Finds the least prices of a graph, and writes them as a certificate.
+/// Finds the least prices of a graph, and writes them as a certificate. Also gives the choices of the first way.
 pub fn backward(alloc: Global, graph: &Graph) -> Result<Plan, OutOfMemory>
     ensures { IfOk result (IsPlan graph.now) }
 {

@@ -21,7 +21,7 @@ use hm_event_parts::put_piece;
 use hm_graph::{Hop, Step};
 use hm_refs::{NameId, Table};
 
-/// Finds the prices before a step by those after it, in place of what the row held.
+/// Finds the prices before a step from those after it. They replace what the row held.
 fn row_before(step: &Step, next_row: &[u64], row: &mut Vec<u64>) -> Result<(), OutOfMemory>
     requires below { AreBelow (2 ^ 63 + 2 ^ 62) (map told next_row.now) }
     requires low { IsLowStep step.now }
@@ -34,7 +34,7 @@ fn row_before(step: &Step, next_row: &[u64], row: &mut Vec<u64>) -> Result<(), O
     Ok(())
 }
 
-/// Puts the prices of the last layer in place of what the row held.
+/// Replaces what the row held by the prices of the last layer, which has `last` states.
 pub(crate) fn zero_each(last: usize, row: &mut Vec<u64>) -> Result<(), OutOfMemory>
     ensures { OnOk result (map told row.new.items ≡ zeros last) }
 {
@@ -45,7 +45,7 @@ pub(crate) fn zero_each(last: usize, row: &mut Vec<u64>) -> Result<(), OutOfMemo
     Ok(())
 }
 
-/// Finds the prices of the layers of these steps, of which the last one has `last` states.
+/// Finds the prices of the layers of these steps, of which the last one leads to `last` states.
 pub(crate) fn find_rows(
     stretch: &[Kept],
     last: usize,
@@ -67,7 +67,7 @@ pub(crate) fn find_rows(
     Ok(())
 }
 
-/// The price of a layer of one state, where there is a way.
+/// The price of a layer of one state, if there is a way to the end.
 pub(crate) fn one_price(row: &[u64]) -> Option<u64>
     ensures { IfSome result (λ price. map told row.now ≡ Some price ∷ []) }
 {
@@ -77,7 +77,7 @@ pub(crate) fn one_price(row: &[u64]) -> Option<u64>
     }
 }
 
-/// The hop from a place over which the least price comes, by the prices of the next layer.
+/// The first hop from a place that has the least price, by the prices of the next layer.
 fn best_hop(step: &Step, next_row: &[u64], place: usize) -> Option<Hop>
     requires below { AreBelow (2 ^ 63 + 2 ^ 62) (map told next_row.now) }
     requires low { IsLowStep step.now }
@@ -102,7 +102,7 @@ fn is_among(ids: &[NameId], id: NameId) -> bool
     false
 }
 
-/// Whether a name in a piece is known to be one of the table, for a unit that is this character, where it is one.
+/// Whether the name in a piece is known to be one of the table. `c` is the unit's character, if it is one.
 fn has_name(table: &Table, piece: Piece, c: Option<char>) -> bool
     ensures { IsTrue result → HasName table.now.entries piece }
 {
@@ -115,7 +115,7 @@ fn has_name(table: &Table, piece: Piece, c: Option<char>) -> bool
     }
 }
 
-/// Writes the first way over these steps, by the prices of their layers. Whether it leads to the end.
+/// Writes the first way over these steps, by the prices of their layers. Gives whether it leads to the end.
 pub(crate) fn write_way(
     out: &mut Vec<u8>,
     table: &Table,
@@ -143,7 +143,7 @@ pub(crate) fn write_way(
     Ok(true)
 }
 
-/// How much less a price is than `top`.
+/// The difference of a price from `top`, as rows store it.
 fn place_price(price: u64, top: u64) -> u64
     requires { top < 2 ^ 64 - 1 }
     ensures { told result ≡ option_map (λ q. top - q) (told price) }
@@ -155,7 +155,7 @@ fn place_price(price: u64, top: u64) -> u64
     }
 }
 
-/// How much less each price is than `top`, in place of what the list held.
+/// The difference of each price from `top`. They replace what the list held.
 pub(crate) fn place_row(row: &[u64], top: u64, into: &mut Vec<u64>) -> Result<(), OutOfMemory>
     requires { top < 2 ^ 64 - 1 }
     ensures { OnOk result (map told into.new.items ≡ placed top (map told row.now)) }
@@ -167,7 +167,7 @@ pub(crate) fn place_row(row: &[u64], top: u64, into: &mut Vec<u64>) -> Result<()
     Ok(())
 }
 
-/// Keeps the rows that a certificate writes of the layers of these steps.
+/// Keeps those rows of the layers of these steps that a certificate writes.
 pub(crate) fn keep_rows(
     rows: &mut Prices,
     stretch: &[Kept],

@@ -9,7 +9,7 @@ fn turned(bytes: [u8; 8]) -> [u8; 8]
     u64::from_le_bytes(bytes).to_be_bytes()
 }
 
-/// The eight bytes from a place on.
+/// The eight bytes from index `at` on.
 #[inline(always)]
 fn eight_at(bytes: &[u8], at: usize) -> [u8; 8]
     requires { at + 8 ≤ length bytes.now }
@@ -33,7 +33,7 @@ fn turn_ends(bytes: &mut [u8])
     bytes[last..].copy_from_slice(&front);
 }
 
-/// Reverses bytes.
+/// Reverses the bytes in place.
 pub(crate) fn turn(bytes: &mut [u8])
     ensures { bytes.new ≡ reverse bytes.old }
 {

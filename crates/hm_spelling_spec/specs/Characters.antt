@@ -108,8 +108,8 @@ pub record CharacterRules : Type 0 where
   pub ascii : Bool
   pub refers : ℕ → Bool
 
--- The piece is allowed before what follows it. A character stands as itself where it is read as itself; a reference stands
--- where it is read as these code points and has these bytes.
+-- The piece is allowed before what follows it. A character is written as itself if it is read as itself; a reference is
+-- allowed if it is read as these code points and has these bytes.
 abbrev pub IsAllowed : List Entry → CharacterRules → Spot → Piece → List ℕ → Type 0
 IsAllowed t rules spot (itself c) after = (may_stand rules.ascii spot c ≡ true) × (stays t spot c after ≡ true)
 IsAllowed t rules spot (reference_to b qs) after =

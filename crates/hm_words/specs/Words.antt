@@ -46,11 +46,11 @@ pub record Asked : Type 0 where
 abbrev pub asks : Origin → Work → TreeOptions → Writing → Asked
 asks origin work options writing = record { origin = origin; work = work; options = options; writing = writing }
 
--- the words of a table that is no file: `none` and `html`
+-- the names of tables that are no files: `none` and `html`
 abbrev pub is_table_word : List ℕ → Bool
 is_table_word table = bytes_eq table (codes "none") || bytes_eq table (codes "html")
 
--- the names of table and page differ, where a word of a table is no name
+-- the names of table and page differ; `none` and `html` are no names of files
 abbrev pub are_apart : List ℕ → List ℕ → Bool
 are_apart table page = is_table_word table || not (bytes_eq table page)
 
@@ -106,11 +106,11 @@ has ws word = list_any (λ w. bytes_eq w word) ws
 abbrev pub are_known : List (List ℕ) → List (List ℕ) → Bool
 are_known known ws = list_all (λ w. not (is_flag w) || has known w) ws
 
--- the word stands at most once
+-- the word is given at most once
 abbrev pub is_single : List (List ℕ) → List ℕ → Bool
 is_single ws word = nat_le (count_by (λ w. bytes_eq w word) ws) 1
 
--- each of these stands at most once
+-- each of these is given at most once
 abbrev pub are_single : List (List ℕ) → List (List ℕ) → Bool
 are_single known ws = list_all (is_single ws) known
 
@@ -122,7 +122,7 @@ are_filled ws = list_all (λ w. not (is_null w)) ws
 abbrev pub are_flags : List (List ℕ) → Bool
 are_flags ws = are_known flags ws && (are_single flags ws && (not (has ws (codes "--conservative")) || has ws (codes "--space")))
 
--- the choices with one of them set, where its flag is given, or not
+-- the choices with one of them set if its flag is given, and unset if not
 abbrev pub set : Setting → Bool → Choices → Choices
 set Comments given c = record c { options = record c.options { comments = given } }
 set Booleans given c = record c { options = record c.options { booleans = given } }
@@ -155,7 +155,7 @@ choices_of ws = fold (set_by ws) no_choices rows
 
 -- ---- The names of a command's files
 
--- the names of the origin's files differ, where a word of a table is no name
+-- the names of the origin's files differ; `none` and `html` are no names of files
 abbrev pub is_origin_apart : Origin → Bool
 is_origin_apart (page_at table page) = are_apart table page
 is_origin_apart (fragment_at table page) = are_apart table page
@@ -169,7 +169,7 @@ is_away (fragment_at table page) name = are_apart table name && not (bytes_eq pa
 is_away (json_at table page) name = are_apart table name && not (bytes_eq page name)
 is_away (made table number size) name = are_apart table name
 
--- two further files have names of their own
+-- OUT and CERT differ from each other and from the files of the origin
 abbrev pub are_files_apart : Origin → List ℕ → List ℕ → Bool
 are_files_apart origin out cert = is_away origin out && (is_away origin cert && not (bytes_eq out cert))
 
@@ -187,7 +187,7 @@ is_apart origin work = is_origin_apart origin && is_work_apart origin work
 
 -- ---- Numbers
 
--- something, in which `0` stands first only where it stands alone
+-- it isn't empty and has no leading zero; `0` itself has none
 abbrev pub has_no_zero : List ℕ → Bool
 has_no_zero [] = false
 has_no_zero (c ∷ s) = not (c == 48) || is_null s
@@ -285,28 +285,28 @@ is_fragment (fragment_at table page) = true
 is_fragment (json_at table page) = false
 is_fragment (made table number size) = false
 
--- the tree is that of a page that is made of a number
+-- the tree is that of a page that `measure` makes
 abbrev pub is_made : Origin → Bool
 is_made (page_at table page) = false
 is_made (fragment_at table page) = false
 is_made (json_at table page) = false
 is_made (made table number size) = true
 
--- The flags may stand with the command: any with each, but a fragment wants that tags may be left out, and a page that is made of a
--- number keeps the order of its attributes.
+-- The flags are allowed with the command: any with each, except that a fragment needs `--omit`, and the page that `measure` makes
+-- is not put into order.
 abbrev pub fits : Command → List (List ℕ) → Bool
 fits command ws = (not (is_fragment command.0) || has ws (codes "--omit")) && (not (is_made command.0) || not (has ws (codes "--order")))
 
--- how the tree of an origin is written: the start tag of body isn't left out where it is that of a fragment
+-- how the tree of an origin is written: the start tag of body isn't omitted for a fragment
 abbrev pub written_of : Origin → Writing → Writing
 written_of origin x = record x { rules = record x.rules { frame = is_fragment origin } }
 
--- a command is asked for, where the names of its files differ, and its flags may stand with it
+-- a command is asked for if the names of its files differ and its flags are allowed with it
 abbrev pub with_flags : List (List ℕ) → Option Command → Option Asked
 with_flags ws None = None
 with_flags ws (Some command) = if is_apart command.0 command.1 && fits command ws then Some (asks command.0 command.1 (choices_of ws).options (written_of command.0 (choices_of ws).writing)) else None
 
--- what the words ask for, where they have a meaning
+-- what the words ask for, if they have a meaning
 unfoldable pub asked : List (List ℕ) → Option Asked
 asked ws = if are_filled ws && are_flags ws then with_flags ws (command_in (names_in ws)) else None
 

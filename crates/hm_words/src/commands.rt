@@ -11,28 +11,28 @@ pub enum Source {
     Fragment,
     /// The JSON of a tree in a file.
     Json,
-    /// The page that is made of a number.
+    /// The page that `measure` makes from a number.
     Number,
 }
 
 /// What a command does with its tree.
 #[derive(Clone, Copy, PartialEq, Eq)]
 pub enum Action {
-    /// It is written shortest, with its certificate.
+    /// It is written in the fewest bytes, with its certificate.
     Minify,
-    /// A text of it and its certificate are checked.
+    /// A text of it and a certificate are checked.
     Check,
-    /// It is shown.
+    /// It is printed.
     Show,
-    /// It is told as JSON.
+    /// It is printed as JSON.
     TellJson,
     /// Its page is explained: where and why it is refused, or how short its tree can be written.
     Explain,
-    /// It is written shortest, and what was written is checked in memory.
+    /// It is written in the fewest bytes, and what was written is checked in memory.
     Measure,
 }
 
-/// The command of this name, if there is one. A further command is a row here.
+/// The command of this name, if there is one. A new command is one more row here.
 pub fn row_of(name: &str) -> Option<(Source, Action)>
     ensures { result ≡ spec.row_of name.now }
 {

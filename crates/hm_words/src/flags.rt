@@ -1,4 +1,4 @@
-//! The flags among the words of a call.
+//! The flags among the arguments.
 ghost use Rattle.std.specs.Prelude.{◌≡◌};
 ghost use Rattle.std.specs.Str.{bytes_eq};
 ghost use Rattle.hm_words.specs.Words as spec;
@@ -26,14 +26,14 @@ pub enum Setting {
     Order,
 }
 
-/// A flag: its name, which follows two hyphens in its word, and what it sets.
+/// A flag: its name, without the two hyphens before it, and what it sets.
 #[derive(Clone, Copy, PartialEq, Eq)]
 pub struct Flag {
     pub name: &'static str,
     pub setting: Setting,
 }
 
-/// The table of flags. A further flag is a row of it.
+/// The table of flags. A new flag is one more row.
 pub const FLAGS: [Flag; 13] = [
     Flag {
         name: "comments",
@@ -97,7 +97,7 @@ pub struct Choices {
 }
 
 impl Setting {
-    /// The choices with this one set, where its flag is given, or not.
+    /// The choices with this one set if `given`, and unset if not.
     pub fn set(self, given: bool, choices: Choices) -> Choices
         ensures { result ≡ spec.set self given choices }
     {
@@ -124,7 +124,7 @@ impl Setting {
     }
 }
 
-/// Whether a word begins with `-`.
+/// Whether an argument starts with `-`.
 fn is_flag(word: &str) -> bool
     ensures { result ≡ spec.is_flag word.now }
 {
@@ -134,7 +134,7 @@ fn is_flag(word: &str) -> bool
     }
 }
 
-/// Whether a word is that of the flag of this name.
+/// Whether an argument is the flag of this name.
 fn is_word_of(name: &str, word: &str) -> bool
     ensures { result ≡ bytes_eq word.now (dashed name.now) }
 {
@@ -144,7 +144,7 @@ fn is_word_of(name: &str, word: &str) -> bool
     }
 }
 
-/// Whether a flag of this name has this word.
+/// Whether an argument is this flag.
 #[tactic(auto, using(crate::proofs::Walks::bytes_flip))]
 fn has_word(flag: &Flag, word: &str) -> bool
     ensures { result ≡ bytes_eq (dashed flag.now.name.now) word.now }
@@ -152,28 +152,28 @@ fn has_word(flag: &Flag, word: &str) -> bool
     is_word_of(flag.name, word)
 }
 
-/// Whether a word is that of one of these flags.
+/// Whether an argument is one of these flags.
 fn is_one_of(word: &str, flags: &[Flag]) -> bool
     ensures { result ≡ answers.is_one_of flags.now word.now }
 {
     flags.iter().any(|flag| has_word(flag, word))
 }
 
-/// Whether no word is empty.
+/// Whether no argument is empty.
 fn are_filled(words: &[OwnedText]) -> bool
     ensures { result ≡ spec.are_filled words.now }
 {
     words.iter().all(|word| !word.text.as_str().is_empty())
 }
 
-/// Whether each flag is one of these.
+/// Whether each argument that starts with `-` is one of these flags.
 fn are_known(words: &[OwnedText], flags: &[Flag]) -> bool
     ensures { result ≡ answers.are_known flags.now words.now }
 {
     words.iter().all(|word| !is_flag(word.text.as_str()) || is_one_of(word.text.as_str(), flags))
 }
 
-/// Whether the word of the flag of this name stands at most once.
+/// Whether the flag of this name is given at most once.
 fn is_single(words: &[OwnedText], name: &str) -> bool
     ensures { result ≡ spec.is_single words.now (dashed name.now) }
 {
@@ -184,15 +184,15 @@ fn is_single(words: &[OwnedText], name: &str) -> bool
         <= 1
 }
 
-/// Whether each of these stands at most once.
+/// Whether each of these flags is given at most once.
 fn are_single(words: &[OwnedText], flags: &[Flag]) -> bool
     ensures { result ≡ answers.are_single flags.now words.now }
 {
     flags.iter().all(|flag| is_single(words, flag.name))
 }
 
-/// Whether no word is empty, and each that begins with `-` is one of the flags, which stands at most once. A command
-/// line of the flags and names takes such words, and no others have a meaning.
+/// Whether no argument is empty, and each that starts with `-` is one of the flags, given at most once. The command
+/// line takes exactly such arguments; no others have a meaning.
 #[tactic(auto, unfolding(crate::specs::Words::flags))]
 pub fn are_readable(words: &[OwnedText]) -> bool
     ensures { result ≡ answers.are_readable words.now }

@@ -1,4 +1,4 @@
-//! What the words of a call ask for: a command with its files or numbers, and flags.
+//! What the arguments of a call ask for: a command with its files or numbers, and flags.
 #![tactic(auto)]
 
 mod commands;

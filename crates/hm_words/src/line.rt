@@ -15,7 +15,7 @@ use clap::{Arg, ArgAction, ArgMatches, Command, Error};
 use hm_base::OwnedText;
 use std::alloc::{AllocError, Global};
 
-/// A name that stands for ever, for as long as it is needed.
+/// Shortens the lifetime of a static name.
 fn lent<'t>(name: &'static str) -> &'t str
     ensures { result.now ≡ name.now }
 {
@@ -30,7 +30,7 @@ fn flag<'t>(alloc: Global, name: &'t str) -> Arg<'t>
     Arg::new(alloc, name).long(name).action(ArgAction::SetTrue)
 }
 
-/// A command without arguments. It has no help and no version, and its words begin with no program's name.
+/// A command without arguments, help or version. The arguments don't start with the program's name.
 fn bare_line<'t>(alloc: Global) -> Command<'t>
     ensures { app_of result ≡ spec.bare_line }
 {
@@ -71,7 +71,7 @@ fn line<'t>(alloc: Global) -> Result<Command<'t>, AllocError>
     ))
 }
 
-/// What clap finds in words that can be read. The only error is lack of memory.
+/// The matches of clap for arguments that can be read. The only error is lack of memory.
 pub fn parse<'w>(alloc: Global, words: &'w [OwnedText]) -> Result<ArgMatches<'w>, Error>
     requires readable { answers.are_readable words.now ≡ true }
     ensures ok { IfOk result (IsMatched words.now) }
@@ -80,14 +80,14 @@ pub fn parse<'w>(alloc: Global, words: &'w [OwnedText]) -> Result<ArgMatches<'w>
     line(alloc)?.try_get_matches_from(words)
 }
 
-/// Whether the flag of this name is among the words.
+/// Whether the flag of this name is among the arguments.
 pub fn is_given(matches: &ArgMatches<'_>, name: &str) -> bool
     ensures { (words : List (List ℕ)) → IsMatched words matches.now → has flags (dashed name.now) ≡ true → result ≡ has words (dashed name.now) }
 {
     matches.get_flag(name)
 }
 
-/// The words that are no flags, in their order, if there are any.
+/// The arguments that are no flags, in their order, if there are any.
 pub fn names_of<'m, 't>(matches: &'m ArgMatches<'t>) -> Option<&'m [&'t str]>
     ensures some { (words : List (List ℕ)) → IsMatched words matches.now → IfSome result (λ names. texts names.now ≡ names_in words) }
     ensures none { (words : List (List ℕ)) → IsMatched words matches.now → IfNone result (names_in words ≡ []) }

@@ -1,19 +1,19 @@
-//! Notices: what the program says of itself.
+//! Notices: what the program prints about itself.
 ghost use Rattle.std.specs.Prelude.{◌≡◌, IfSome, None};
 ghost use Rattle.hm_words.specs.Words as spec;
 
 use hm_base::OwnedText;
 
-/// What the program says of itself.
+/// What the program prints about itself.
 #[derive(Clone, Copy, PartialEq, Eq)]
 pub enum Notice {
-    /// How it is called.
+    /// How to call it.
     Help,
     /// Its version, and the toolchain that it was proved with.
     Version,
 }
 
-/// The notice that a word asks for. A further word is a row here.
+/// The notice that an argument asks for. A new one is one more row here.
 fn notice_of(word: &str) -> Option<Notice>
     ensures { result ≡ spec.notice_of word.now }
 {
@@ -34,7 +34,7 @@ fn notice_of(word: &str) -> Option<Notice>
     }
 }
 
-/// The notice that words ask for: a single word of the table of notices.
+/// The notice that the arguments ask for: there is exactly one, and the table of notices has it.
 pub fn notice_in(words: &[OwnedText]) -> Option<Notice>
     ensures notice { result ≡ spec.notice_in words.now }
     ensures unasked { IfSome result (λ _. spec.asked words.now ≡ None) }

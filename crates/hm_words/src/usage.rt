@@ -1,22 +1,23 @@
-//! Why words have no meaning, told to who called the program. Nothing is proved of it: what has a meaning is decided by `Asked::read`.
+//! Explains on standard error why arguments were rejected. Nothing is proved of it: `Asked::read` decides which have a
+//! meaning.
 use crate::commands::{Action, Source, row_of};
 use crate::flags::FLAGS;
 use hm_base::OwnedText;
 use std::alloc::{AllocError, Global};
 
-/// Whether a word begins with `-`.
+/// Whether an argument starts with `-`.
 fn is_flag(word: &str) -> bool {
     word.starts_with('-')
 }
 
-/// Whether a word is that of a flag.
+/// Whether an argument is a flag.
 fn is_known(word: &str) -> bool {
     FLAGS
         .iter()
         .any(|flag| word.strip_prefix("--") == Some(flag.name))
 }
 
-/// How often a word stands.
+/// How often an argument is given.
 fn count(words: &[OwnedText], wanted: &str) -> usize {
     words
         .iter()
@@ -44,7 +45,7 @@ fn flag_fault(alloc: Global, words: &[OwnedText]) -> Result<Option<String>, Allo
     Ok(None)
 }
 
-/// The words of a command after its name, as the help has them, and how many they are.
+/// The arguments of a command after its name, as the help shows them, and their number.
 fn wanted(source: Source, deed: Action) -> (&'static str, usize) {
     match (source, deed) {
         (Source::Number, _) => ("TABLE NUMBER SIZE", 3),
@@ -53,7 +54,7 @@ fn wanted(source: Source, deed: Action) -> (&'static str, usize) {
     }
 }
 
-/// What is wrong with the words after a command's name.
+/// What is wrong with the arguments after a command's name.
 fn command_fault(
     alloc: Global,
     words: &[OwnedText],
@@ -83,7 +84,7 @@ fn command_fault(
     }
 }
 
-/// Why words have no meaning: the word that has none, or what is missing.
+/// Why arguments were rejected: the one that has no meaning, or what is missing.
 pub fn usage_fault(alloc: Global, words: &[OwnedText]) -> Result<String, AllocError> {
     if let Some(fault) = flag_fault(alloc, words)? {
         return Ok(fault);

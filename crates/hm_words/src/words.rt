@@ -1,4 +1,4 @@
-//! The words of a call.
+//! The arguments of a call.
 ghost use Rattle.std.specs.Prelude.{◌≡◌, ℕ, List, [], ◌∷◌, IfOk, IfSome, IfNone, Some, None, Err, true, false, option_map, fold};
 ghost use Rattle.std.specs.List.{list_all};
 ghost use Rattle.clap.specs.Walk.{texts};
@@ -17,7 +17,7 @@ use clap::ArgMatches;
 use hm_base::{OwnedText, SpellRules, TreeOptions};
 use std::alloc::Global;
 
-/// The most blocks of a page that is made.
+/// The most blocks of a page that `measure` makes.
 const MOST_BLOCKS: u32 = 20_000;
 
 /// Where the tree of a request comes from, with the names of its files.
@@ -33,12 +33,12 @@ pub enum Origin<'w> {
         table: &'w str,
         page: &'w str,
     },
-    /// The tree whose JSON is in a file, with a table of names.
+    /// The tree whose JSON is in a file. The table of names is for the output.
     JsonAt {
         table: &'w str,
         page: &'w str,
     },
-    /// The page of `size` blocks that is made of a number.
+    /// The page of `size` blocks that `measure` makes from a number.
     Made {
         table: &'w str,
         number: u32,
@@ -49,21 +49,21 @@ pub enum Origin<'w> {
 /// What is done with the tree, with the names of its files.
 #[derive(Clone, Copy)]
 pub enum Work<'w> {
-    /// It is written shortest, with its certificate.
+    /// It is written in the fewest bytes, with its certificate.
     Minify { out: &'w str, cert: &'w str },
-    /// A text of it and its certificate are checked.
+    /// A text of it and a certificate are checked.
     Check { out: &'w str, cert: &'w str },
-    /// It is shown.
+    /// It is printed.
     Show,
-    /// It is told as JSON.
+    /// It is printed as JSON.
     TellJson,
     /// Its page is explained: where and why it is refused, or how short its tree can be written.
     Explain,
-    /// It is written shortest, and what was written is checked in memory.
+    /// It is written in the fewest bytes, and what was written is checked in memory.
     Measure,
 }
 
-/// A request: where a tree comes from, what is done with it, the rewrites of the tree, and how that is written.
+/// A request: where a tree comes from, what is done with it, which rewrites it gets, and how it is written.
 #[derive(Clone, Copy)]
 pub struct Asked<'w> {
     pub origin: Origin<'w>,
@@ -72,30 +72,30 @@ pub struct Asked<'w> {
     pub writing: Writing,
 }
 
-/// Why words give no request.
+/// Why arguments give no request.
 #[derive(Clone, Copy, PartialEq, Eq)]
 pub enum WordsFault {
-    /// The words have no meaning.
+    /// The arguments have no meaning.
     Usage,
-    /// Memory was refused.
+    /// No memory could be allocated.
     OutOfMemory,
 }
 
-/// Whether a table is one that is no file: `none`, or `html`.
+/// Whether the name of a table is no file: `none` or `html`.
 fn is_table_word(table: &str) -> bool
     ensures { result ≡ spec.is_table_word table.now }
 {
     table == "none" || table == "html"
 }
 
-/// Whether two names differ, where a word of a table is none.
+/// Whether two names of files differ. `none` and `html` are no files.
 fn are_apart(table: &str, page: &str) -> bool
     ensures { result ≡ spec.are_apart table.now page.now }
 {
     is_table_word(table) || table != page
 }
 
-/// Whether the names of an origin's files differ, where a word of a table is none.
+/// Whether the names of an origin's files differ. `none` and `html` are no files.
 fn is_origin_apart(origin: &Origin<'_>) -> bool
     ensures { result ≡ spec.is_origin_apart (origin_of origin.now) }
 {
@@ -127,14 +127,14 @@ fn is_away(origin: &Origin<'_>, name: &str) -> bool
     }
 }
 
-/// Whether two further files have names of their own.
+/// Whether OUT and CERT differ from each other and from the files of an origin.
 fn are_files_apart(origin: &Origin<'_>, out: &str, cert: &str) -> bool
     ensures { result ≡ spec.are_files_apart (origin_of origin.now) out.now cert.now }
 {
     is_away(origin, out) && is_away(origin, cert) && out != cert
 }
 
-/// Whether the names of a command's files differ, where a word of a table is none.
+/// Whether the names of a command's files differ. `none` and `html` are no files.
 fn is_apart(origin: &Origin<'_>, work: &Work<'_>) -> bool
     ensures { result ≡ spec.is_apart (origin_of origin.now) (work_of work.now) }
 {
@@ -149,7 +149,7 @@ fn is_apart(origin: &Origin<'_>, work: &Work<'_>) -> bool
         }
 }
 
-/// Nothing is chosen.
+/// The choices without any flag.
 const NO_CHOICES: Choices = Choices {
     options: TreeOptions {
         doctype: false,
@@ -193,7 +193,7 @@ fn choices_of(matches: &ArgMatches<'_>) -> Choices
     chosen(matches, &FLAGS)
 }
 
-/// The page that is made of a number, with this table, where the two words are numbers that it takes.
+/// The page that `measure` makes with this table, if the two arguments are numbers in range.
 fn made_of<'w>(table: &'w str, number: &str, size: &str) -> Option<Origin<'w>>
     ensures { option_map origin_of result ≡ spec.made_of table.now (spec.number_in 0 4294967295 number.now) (spec.number_in 1 20000 size.now) }
 {
@@ -206,7 +206,8 @@ fn made_of<'w>(table: &'w str, number: &str, size: &str) -> Option<Origin<'w>>
     })
 }
 
-/// The page of a table, a number and a size with which these words begin, and the words after them.
+/// The page that `measure` makes, from a table, a number and a size at the start of these arguments, and the arguments
+/// after them.
 fn number_in_front<'m, 'w>(names: &'m [&'w str]) -> Option<(Origin<'w>, &'m [&'w str])>
     ensures { option_map (λ o. (origin_of o.0, texts o.1.now)) result ≡ spec.origin_in Source.Number (texts names.now) }
 {
@@ -219,7 +220,7 @@ fn number_in_front<'m, 'w>(names: &'m [&'w str]) -> Option<(Origin<'w>, &'m [&'w
     }
 }
 
-/// The origin with which these words begin, and the words after it.
+/// The origin at the start of these arguments, and the arguments after it.
 fn origin_in<'m, 'w>(source: Source, names: &'m [&'w str]) -> Option<(Origin<'w>, &'m [&'w str])>
     ensures { option_map (λ o. (origin_of o.0, texts o.1.now)) result ≡ spec.origin_in source (texts names.now) }
 {
@@ -240,7 +241,7 @@ fn origin_in<'m, 'w>(source: Source, names: &'m [&'w str]) -> Option<(Origin<'w>
     }
 }
 
-/// The work of these words, which are all that are left.
+/// The work that these arguments ask for. They are all that are left.
 fn work_in<'w>(deed: Action, names: &[&'w str]) -> Option<Work<'w>>
     ensures { option_map work_of result ≡ spec.work_in deed (texts names.now) }
 {
@@ -272,7 +273,7 @@ fn work_in<'w>(deed: Action, names: &[&'w str]) -> Option<Work<'w>>
     }
 }
 
-/// The command of a row, by the words after its name.
+/// The command of a row, from the arguments after its name.
 fn command_by<'w>(source: Source, deed: Action, names: &[&'w str]) -> Option<(Origin<'w>, Work<'w>)>
     ensures { option_map command_of result ≡ spec.command_by (Some (source, deed)) (texts names.now) }
 {
@@ -281,7 +282,7 @@ fn command_by<'w>(source: Source, deed: Action, names: &[&'w str]) -> Option<(Or
     Some((origin, work))
 }
 
-/// The command of the words that are no flags.
+/// The command of the arguments that are no flags.
 fn command_in<'w>(names: &[&'w str]) -> Option<(Origin<'w>, Work<'w>)>
     ensures { option_map command_of result ≡ spec.command_in (texts names.now) }
 {
@@ -294,7 +295,7 @@ fn command_in<'w>(names: &[&'w str]) -> Option<(Origin<'w>, Work<'w>)>
     }
 }
 
-/// Whether `--conservative` is given only beside `--space`.
+/// Whether `--conservative` is given only together with `--space`.
 #[tactic(auto, unfolding(crate::specs::Words::flags))]
 fn is_guarded(matches: &ArgMatches<'_>) -> bool
     ensures { (words : List (List ℕ)) → IsMatched words matches.now → result ≡ answers.is_guarded words }
@@ -309,7 +310,7 @@ fn is_fragment(origin: &Origin<'_>) -> bool
     matches!(*origin, Origin::FragmentAt { table: _, page: _ })
 }
 
-/// Whether the tree is that of a page that is made of a number.
+/// Whether the tree is that of a page that `measure` makes.
 fn is_made(origin: &Origin<'_>) -> bool
     ensures { result ≡ spec.is_made (origin_of origin.now) }
 {
@@ -323,8 +324,8 @@ fn is_made(origin: &Origin<'_>) -> bool
     )
 }
 
-/// Whether the flags may stand with the command: any with each, but a fragment wants that tags may be left out, and a page that is
-/// made of a number keeps the order of its attributes.
+/// Whether the flags are allowed with the command. Each is with most; but a fragment needs `--omit`, and `measure`
+/// doesn't take `--order`.
 #[tactic(auto, unfolding(crate::specs::Words::flags))]
 fn fits(command: &(Origin<'_>, Work<'_>), matches: &ArgMatches<'_>) -> bool
     ensures { (words : List (List ℕ)) → IsMatched words matches.now → result ≡ spec.fits (command_of command.now) words }
@@ -333,7 +334,7 @@ fn fits(command: &(Origin<'_>, Work<'_>), matches: &ArgMatches<'_>) -> bool
         && (!is_made(&command.0) || !is_given(matches, "order"))
 }
 
-/// How the tree of an origin is written: the start tag of body isn't left out where it is that of a fragment.
+/// How the tree of an origin is written: the start tag of `body` isn't omitted for a fragment.
 fn written_of(origin: &Origin<'_>, writing: Writing) -> Writing
     ensures { result ≡ spec.written_of (origin_of origin.now) writing }
 {
@@ -342,7 +343,7 @@ fn written_of(origin: &Origin<'_>, writing: Writing) -> Writing
     writing
 }
 
-/// What the words of these matches ask for, if they have a meaning.
+/// What the arguments of these matches ask for, if they have a meaning.
 #[tactic(auto, using(crate::proofs::Meanings::asked_is))]
 fn asked_in<'w>(matches: &ArgMatches<'w>) -> Option<Asked<'w>>
     ensures asked { (words : List (List ℕ)) → answers.are_readable words ≡ true → IsMatched words matches.now → option_map request_of result ≡ spec.asked words }
@@ -366,7 +367,7 @@ fn asked_in<'w>(matches: &ArgMatches<'w>) -> Option<Asked<'w>>
 }
 
 impl<'w> Asked<'w> {
-    /// What the words ask for. Memory may be refused before the words are found to have no meaning.
+    /// What the arguments ask for. This may fail with `OutOfMemory` also for arguments without a meaning.
     #[tactic(auto, using(crate::proofs::Meanings::not_asked))]
     pub fn read(alloc: Global, words: &'w [OwnedText]) -> Result<Asked<'w>, WordsFault>
         ensures ok { IfOk result (λ a. spec.asked words.now ≡ Some (request_of a)) }

@@ -1,8 +1,8 @@
 //! How a tree is written.
 use hm_base::SpellRules;
 
-/// How a tree is written: the spellings that are allowed, whether its certificate is a sparse one, and whether the attributes of each
-/// tag are put into the order in which it is shortest.
+/// How a tree is written: the spellings that are allowed, whether its certificate is a sparse one, and whether the
+/// attributes of each tag are put into the order that makes the tag shortest.
 #[derive(Clone, Copy, PartialEq, Eq)]
 pub struct Writing {
     pub rules: SpellRules,

@@ -1,3 +1,4 @@
+//! Certificates: how they are written and read.
 ghost use Rattle.std.specs.Prelude.{◌<◌, IsTrue};
 ghost use Rattle.hm_cert.specs.Places.{IsRowPlace};
 
@@ -14,49 +15,49 @@ use std::alloc::Global;
 const EVERY_LAYER: &str =
     "html-cert 1\nrules omit unquote\n23\n8\n8\n8\n8\n8\n5\n4\n4\n1\n0\n0\n0\n0\n";
 
-/// Its rows.
+/// The rows of `EVERY_LAYER`.
 const EVERY_ROWS: &str = "23|8|8|8|8|8|5|4|4|1|0|0|0|0";
 
-/// The same, with those that have a choice.
+/// The certificate of the same page with the layers that have a choice.
 const CHOICES: &str = "html-cert 2\nrules omit unquote\n23\n8\n8\n8\n8\n4\n0\n0\n0\n0\n";
 
-/// Its rows.
+/// The rows of `CHOICES`.
 const CHOICES_ROWS: &str = "23|8|8|8|8|4|0|0|0|0";
 
-/// The sparse one of the same page.
+/// The sparse certificate of the same page.
 const SPARSE: &str = "html-cert 3\nrules omit unquote\n23\n0\n";
 
-/// Its rows.
+/// The rows of `SPARSE`.
 const SPARSE_ROWS: &str = "23|0";
 
-/// Rows of several prices, some of them closed, and the highest price.
+/// Rows of several prices, some of them infinite, and the highest price.
 const WIDE: &str = "html-cert 2\nrules omit unquote\n10 - 9223372036854775807\n- -\n0\n";
 
-/// Its rows.
+/// The rows of `WIDE`.
 const WIDE_ROWS: &str = "10 - 9223372036854775807|- -|0";
 
-/// Prices that have the first digits of one beside them, and some that only seem to.
+/// Prices that share their first digits with a price next to them, and some that only seem to.
 const NEAR: &str =
     "html-cert 2\nrules omit unquote\n123456 123499 123400\n123455 12345678\n99123456 123455\n99999 100000 - 100001\n1234567890 1234567899 1234567800 0\n";
 
-/// Their rows.
+/// The rows of `NEAR`.
 const NEAR_ROWS: &str =
     "123456 123499 123400|123455 12345678|99123456 123455|99999 100000 - 100001|1234567890 1234567899 1234567800 0";
 
-/// Prices that are raised over hundreds and get more digits, a closed one, and more prices than four.
+/// Prices that are raised over hundreds and get more digits, an infinite one, and more than four prices in a row.
 const RAISED: &str =
     "html-cert 2\nrules omit unquote\n1000000000 999999999\n1000100 1000099 1000000\n1000099 - 999999\n200 199 100 101 200 199 999\n100 9 0\n99 98\n";
 
-/// Their rows.
+/// The rows of `RAISED`.
 const RAISED_ROWS: &str =
     "1000000000 999999999|1000100 1000099 1000000|1000099 - 999999|200 199 100 101 200 199 999|100 9 0|99 98";
 
-/// The price that a word tells. `-` is a closed one.
+/// The price in a word. `-` is an infinite one.
 fn price_of(word: &str) -> u64 {
     word.parse::<u64>().unwrap_or(INFINITE)
 }
 
-/// Puts the prices of a row into a list, in place of what was there.
+/// Replaces a list by the prices of a row.
 fn put_row(row: &mut Vec<u64>, words: &str) -> Result<(), OutOfMemory> {
     row.clear();
     for word in words.split(' ') {
@@ -65,7 +66,7 @@ fn put_row(row: &mut Vec<u64>, words: &str) -> Result<(), OutOfMemory> {
     Ok(())
 }
 
-/// Appends rows, with bars between them.
+/// Appends rows that are separated by bars.
 fn push_rows(prices: &mut Prices, row: &mut Vec<u64>, rows: &str) -> Result<(), OutOfMemory> {
     for words in rows.split('|') {
         put_row(row, words)?;
@@ -82,7 +83,7 @@ fn prices_of(alloc: Global, rows: &str) -> Result<Prices, OutOfMemory> {
     Ok(prices)
 }
 
-/// The text of a certificate, written from its end and reversed.
+/// The text of a certificate, written from its end and then reversed.
 fn reversed(
     alloc: Global,
     format: Format,
@@ -99,7 +100,7 @@ fn reversed(
     Ok(bytes)
 }
 
-/// Whether a certificate of these prices has this text, written from its front.
+/// Whether a certificate of these prices has this text if it is written from its start.
 fn is_front(alloc: Global, format: Format, prices: &Prices, text: &[u8]) -> bool {
     match write_certificate(alloc, format, RULES, prices) {
         Ok(front) => front.as_slice() == text,
@@ -107,7 +108,7 @@ fn is_front(alloc: Global, format: Format, prices: &Prices, text: &[u8]) -> bool
     }
 }
 
-/// Whether a certificate of these prices has this text, written from its front and from its end.
+/// Whether a certificate of these prices has this text, written from its start and from its end.
 fn is_written(alloc: Global, format: Format, prices: &Prices, text: &[u8]) -> bool {
     match reversed(alloc, format, RULES, prices) {
         Ok(end) => is_front(alloc, format, prices, text) & (end.as_slice() == text),
@@ -115,7 +116,7 @@ fn is_written(alloc: Global, format: Format, prices: &Prices, text: &[u8]) -> bo
     }
 }
 
-/// The same of a certificate of these rows.
+/// As `is_written`, for a certificate of these rows.
 fn are_written(alloc: Global, format: Format, rows: &str, text: &str) -> bool {
     match prices_of(alloc, rows) {
         Ok(prices) => is_written(alloc, format, &prices, text.as_bytes()),
@@ -123,6 +124,7 @@ fn are_written(alloc: Global, format: Format, rows: &str, text: &str) -> bool {
     }
 }
 
+/// Certificates are written in each format.
 #[test]
 fn written(rt: HostRuntime) {
     let alloc = rt.alloc();
@@ -153,7 +155,7 @@ fn written(rt: HostRuntime) {
     );
 }
 
-/// Whether a price that is added to those of a row is, but to a closed one.
+/// Whether a price that is added to those of a row raises them, but not an infinite one.
 fn is_added(alloc: Global) -> bool {
     match Vec::from_array(alloc, [99, 9_999, INFINITE]) {
         Ok(mut row) => {
@@ -164,6 +166,7 @@ fn is_added(alloc: Global) -> bool {
     }
 }
 
+/// Prices are raised.
 #[test]
 fn added(rt: HostRuntime) {
     expect(&rt, is_added(rt.alloc()), "99, 9,999 and a closed one");
@@ -176,7 +179,7 @@ fn push_long_rows(prices: &mut Prices) -> Result<(), OutOfMemory> {
     prices.push_row(&[99; 2])
 }
 
-/// Whether a certificate of these prices is long, and the same written from its front and from its end.
+/// Whether a certificate of these prices is long, and the same from its start and from its end.
 fn is_long(alloc: Global, prices: &Prices) -> bool {
     match write_certificate(alloc, Format::Compact, RULES, prices) {
         Ok(text) => {
@@ -187,19 +190,20 @@ fn is_long(alloc: Global, prices: &Prices) -> bool {
     }
 }
 
-/// Whether a certificate of long rows is so.
+/// Whether a certificate of long rows is.
 fn are_long(alloc: Global) -> bool {
     let mut prices = Prices::new(alloc);
     let are_pushed = push_long_rows(&mut prices).is_ok();
     are_pushed & is_long(alloc, &prices)
 }
 
+/// A long certificate is the same from its start and from its end.
 #[test]
 fn long_rows(rt: HostRuntime) {
     expect(&rt, are_long(rt.alloc()), "long rows");
 }
 
-/// What is wanted after a price. `-` is a closed one.
+/// The rest of the expected text after a price. `-` is an infinite one.
 fn after_price<'w>(wanted: &'w str, price: u64) -> &'w str {
     if price == INFINITE {
         after(wanted, "-")
@@ -208,7 +212,7 @@ fn after_price<'w>(wanted: &'w str, price: u64) -> &'w str {
     }
 }
 
-/// Whether the prices of a row are these, with a space between each two.
+/// Whether the prices of a row are these, which are separated by spaces.
 fn is_row(row: &[u64], wanted: &str) -> bool {
     let mut rest = wanted;
     let mut mark = "";
@@ -219,7 +223,7 @@ fn is_row(row: &[u64], wanted: &str) -> bool {
     rest.is_empty()
 }
 
-/// Whether the row before a place is this one. The place moves before it.
+/// Whether the row before a place is this one. The place moves to before it.
 fn is_before<'a>(
     read: &WrittenRows<'a>,
     place: &mut RowPlace<'a>,
@@ -236,7 +240,7 @@ fn is_before<'a>(
     }
 }
 
-/// Whether the rows that were read are these, with bars between them. They are read from the last to the first.
+/// Whether the rows that were read are these, which are separated by bars. They are read from the last to the first.
 fn has_rows(alloc: Global, read: &WrittenRows<'_>, rows: &str) -> bool {
     let mut row = Vec::new(alloc);
     let mut place = read.end();
@@ -259,6 +263,7 @@ fn is_read(alloc: Global, format: Format, rows: &str, text: &str) -> bool {
     }
 }
 
+/// Certificates are read in each format.
 #[test]
 fn read(rt: HostRuntime) {
     let alloc = rt.alloc();
@@ -276,7 +281,7 @@ fn read(rt: HostRuntime) {
     expect(&rt, is_read(alloc, Format::Compact, NEAR_ROWS, NEAR), NEAR);
 }
 
-/// Whether these rules are those of a certificate whose output is tight, of ASCII and in a frame.
+/// Whether these rules are those of a certificate whose output is tight, of ASCII and of a fragment.
 fn are_framed(rules: SpellRules) -> bool {
     rules.tight && rules.ascii && rules.frame && !rules.omit && !rules.unquote
 }
@@ -289,12 +294,13 @@ fn has_flags(alloc: Global) -> bool {
     }
 }
 
+/// The rules of a certificate are read.
 #[test]
 fn flags(rt: HostRuntime) {
     expect(&rt, has_flags(rt.alloc()), "flags");
 }
 
-/// Texts that are no certificates, and the first line that is wrong in each. `¶` stands after each.
+/// Texts that are no certificates, and the first line that is wrong in each. `¶` is after each.
 const BAD_LINES: &str = "\
     \x20⇒ 1¶\
     \n ⇒ 1¶\
@@ -341,6 +347,7 @@ fn is_bad_line(alloc: Global, row: &str) -> bool {
     }
 }
 
+/// A text that is no certificate is refused at its first wrong line.
 #[test]
 fn bad_lines(rt: HostRuntime) {
     for row in BAD_LINES.split('¶') {

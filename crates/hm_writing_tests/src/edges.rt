@@ -1,3 +1,4 @@
+//! The edges of units, in their order, and the lengths of their pieces.
 ghost use Rattle.hm_refs.specs.Tables.{TableView};
 ghost use Rattle.hm_edges.specs.States.{HasNodes};
 
@@ -9,11 +10,12 @@ use std::alloc::{AllocError, Global};
 use std::process::Abort;
 use std::test::Fail;
 
+/// A table of seven names.
 const SEVEN: &str =
     "{\"&amp\":{\"codepoints\":[38]},\"&amp;\":{\"codepoints\":[38]},\"&lt\":{\"codepoints\":[60]},\"&lt;\":{\"codepoints\":[60]},\"&not\":{\"codepoints\":[172]},\"&not;\":{\"codepoints\":[172]},\"&notin;\":{\"codepoints\":[8713]}}";
 
-/// Whether these are the edges, in this order: the piece of each, where it leads, and what is pending there. A line feed
-/// stands after each.
+/// Whether these are the edges, in this order: the piece of each, where it leads, and what is pending there. A line
+/// feed is after each.
 fn are_same(edges: &[Edge], wanted: &str) -> bool {
     let mut rest = wanted;
     for edge in edges {
@@ -34,7 +36,7 @@ fn has_edges(alloc: Global, table: &Table, unit: Unit, from: State, wanted: &str
     }
 }
 
-/// The same with the table of these names. Nothing of the names is pending.
+/// As `has_edges`, with the table of these names. No name is pending.
 fn are_edges(alloc: Global, names: &str, unit: Unit, from: State, wanted: &str) -> bool
     requires { (v : TableView) → HasNodes v from.pending }
 {
@@ -50,7 +52,7 @@ const OUTSIDE: State = State {
     pending: Pending::Nothing,
 };
 
-/// A character of this kind of text, before another one or before none.
+/// A character of this kind of text. `more` says whether another one follows it.
 fn character(kind: TextKind, c: char, more: bool) -> Unit {
     Unit::Character {
         kind,
@@ -66,7 +68,7 @@ const LESS_THAN: &str = "\
     (Decimal { number: 60, closed: false }, Outside, Decimal)\n\
     (Decimal { number: 60, closed: true }, Outside, Nothing)\n";
 
-/// After a name for two characters, the second of which is due.
+/// After a name for two characters, of which the second has still to come.
 const HALF: State = State {
     at: Where::Outside,
     pending: Pending::Half { left: None },
@@ -99,7 +101,7 @@ const BRACKET: &str = "\
     (Section { opens: false, closes: false }, InSection, TwoBrackets)\n\
     (Section { opens: false, closes: true }, Outside, Nothing)\n";
 
-/// After `]]` in a section, where a `>` before no other character has no edge.
+/// After `]]` in a section, in which a final `>` has no edge.
 const TWO_BRACKETS: State = State {
     at: Where::InSection,
     pending: Pending::TwoBrackets,
@@ -110,6 +112,7 @@ fn expect_outside(rt: &impl Abort, alloc: Global, unit: Unit, wanted: &str) {
     expect(rt, are_edges(alloc, NONE, unit, OUTSIDE, wanted), wanted);
 }
 
+/// Characters of ordinary text have their edges.
 #[test]
 fn spellings(rt: HostRuntime) {
     let alloc = rt.alloc();
@@ -118,6 +121,7 @@ fn spellings(rt: HostRuntime) {
     expect_outside(&rt, alloc, character(TextKind::Foreign, '<', true), FOREIGN);
 }
 
+/// Characters of SVG have their edges, in and outside of sections.
 #[test]
 fn spellings_in_sections(rt: HostRuntime) {
     let alloc = rt.alloc();
@@ -131,6 +135,7 @@ fn spellings_in_sections(rt: HostRuntime) {
     expect(&rt, are_edges(alloc, NONE, end, TWO_BRACKETS, ""), "]]>");
 }
 
+/// The second character of a name for two has one edge, which writes nothing.
 #[test]
 fn the_second_of_two_is_spelled_by_nothing(rt: HostRuntime) {
     let second = character(TextKind::Text, '\u{338}', false);
@@ -165,7 +170,7 @@ fn ampersand_edges(alloc: Global, table: &Table) -> Result<String, AllocError> {
     }
 }
 
-/// Whether a `&` is spelled as itself, by its two names and by its numbers.
+/// Whether the edges of a `&` are itself, its two names and its numbers.
 fn spells_ampersand(alloc: Global, table: &Table) -> bool {
     let unit = character(TextKind::Text, '&', false);
     match ampersand_edges(alloc, table) {
@@ -174,6 +179,7 @@ fn spells_ampersand(alloc: Global, table: &Table) -> bool {
     }
 }
 
+/// A `&` has edges by its names.
 #[test]
 fn spells_ampersand_by_names(rt: HostRuntime) -> Result<(), Fail> {
     let table = Table::read(rt.alloc(), SEVEN.as_bytes())?;
@@ -181,7 +187,7 @@ fn spells_ampersand_by_names(rt: HostRuntime) -> Result<(), Fail> {
     Ok(())
 }
 
-/// An `x` before a character with which some name stands for both.
+/// An `x` before a character such that some name gives both.
 const FIRST_OF_TWO: Unit = Unit::Character {
     kind: TextKind::Text,
     c: 'x',
@@ -202,7 +208,7 @@ fn first_edges(alloc: Global, table: &Table) -> Result<String, AllocError> {
     }
 }
 
-/// Whether the `x` is spelled as itself, by the only name for both and by its numbers.
+/// Whether the edges of the `x` are itself, the only name for both and its numbers.
 fn spells_two(alloc: Global, table: &Table) -> bool {
     match first_edges(alloc, table) {
         Ok(wanted) => has_edges(alloc, table, FIRST_OF_TWO, OUTSIDE, wanted.as_str()),
@@ -210,6 +216,7 @@ fn spells_two(alloc: Global, table: &Table) -> bool {
     }
 }
 
+/// The first character of two has an edge by the name for both.
 #[test]
 fn spells_two_by_a_name(rt: HostRuntime) -> Result<(), Fail> {
     let table = Table::read(rt.alloc(), TWO.as_bytes())?;
@@ -231,6 +238,7 @@ fn have_lengths(table: &Table) -> bool {
         && piece_len(character(TextKind::Foreign, ']', true), section, table) == 13
 }
 
+/// Pieces have their lengths in bytes.
 #[test]
 fn lengths_of_pieces(rt: HostRuntime) -> Result<(), Fail> {
     let table = Table::read(rt.alloc(), NONE.as_bytes())?;

@@ -1,3 +1,4 @@
+//! Graphs of small trees.
 #![tactic(auto, using(hm_tree::proofs::RoomLemmas::room))]
 
 use crate::made::{NONE, TIGHT_RULES as RULES, TWO, attributes};
@@ -39,8 +40,8 @@ fn element_alone(alloc: Global, name: &str, attr: &str, value: &str) -> Result<T
     Ok(maker.finish())
 }
 
-/// Whether the graph has these steps and so many states after them. A step is told by its number, how many states are before it,
-/// how many hops the first of them has, and whether each has one. A space stands before the states.
+/// Whether the graph has these steps and this many states after them. A step is printed as its number, how many states
+/// are before it, how many hops the first of them has, and whether each has one. A space is before the states.
 fn is_like(graph: &Graph, wanted: &str) -> bool {
     let mut at = graph.first_layer();
     let mut rest = wanted;
@@ -57,7 +58,7 @@ fn is_like(graph: &Graph, wanted: &str) -> bool {
     is_value(after(rest, " "), &graph.last())
 }
 
-/// Whether the graph of a tree is like this with a table.
+/// Whether the graph of a tree is printed so, with a table.
 fn graph_is_like(alloc: Global, table: &Table, tree: &Tree, format: Format, wanted: &str) -> bool {
     match Graph::of(alloc, tree, table, RULES, format) {
         Ok(graph) => is_like(&graph, wanted),
@@ -65,7 +66,7 @@ fn graph_is_like(alloc: Global, table: &Table, tree: &Tree, format: Format, want
     }
 }
 
-/// The same with the table of these names of references.
+/// As `graph_is_like`, with the table of these names of references.
 fn has_steps(alloc: Global, names: &str, tree: &Tree, format: Format, wanted: &str) -> bool {
     match Table::read(alloc, names.as_bytes()) {
         Ok(table) => graph_is_like(alloc, &table, tree, format, wanted),
@@ -73,7 +74,7 @@ fn has_steps(alloc: Global, names: &str, tree: &Tree, format: Format, wanted: &s
     }
 }
 
-/// The same of a text.
+/// As `has_steps`, for a text.
 fn text_has_steps(alloc: Global, names: &str, text: &str, format: Format, wanted: &str) -> bool {
     match text_alone(alloc, text) {
         Ok(tree) => has_steps(alloc, names, &tree, format, wanted),
@@ -81,18 +82,19 @@ fn text_has_steps(alloc: Global, names: &str, text: &str, format: Format, wanted
     }
 }
 
-/// `a<b`: after the `<` as itself no letter may stand.
+/// `a<b`: after the `<` as itself no letter may follow.
 const LESS_THAN: &str = "(0, 1, 1, true)(1, 1, 3, false)(2, 3, 0, false) 1";
 
-/// A name for two code points is a way where they stand together.
+/// A name for two code points is a way if they follow each other.
 const PAIR: &str = "(0, 1, 4, false)(1, 3, 3, false) 2";
 
-/// It is no way where they stand apart.
+/// It is no way if they don't.
 const NO_PAIR: &str = "(0, 1, 3, false)(1, 2, 3, false) 2";
 
-/// In the graph of a sparse certificate a character that can stand as itself stands as a number nowhere.
+/// In the graph of a sparse certificate, a character that can be written as itself is never written as a number.
 const SPARSE: &str = "(0, 1, 2, false)(1, 2, 1, true) 1";
 
+/// The graphs of texts.
 #[test]
 fn texts(rt: HostRuntime) {
     let alloc = rt.alloc();
@@ -118,6 +120,7 @@ fn value_has_steps(alloc: Global, wanted: &str) -> bool {
     }
 }
 
+/// The graph of an element with a value.
 #[test]
 fn value(rt: HostRuntime) {
     expect(&rt, value_has_steps(rt.alloc(), VALUE), "a value");

@@ -1,4 +1,4 @@
-//! What several of the tests make: rules, tables of names, attributes, trees of pages.
+//! What several of the tests need: rules, tables of names, attributes, trees of pages.
 #![tactic(auto, using(hm_tree::proofs::RoomLemmas::room))]
 
 ghost use Rattle.std.specs.Prelude.{◌+◌, ◌≤◌, length, IfOk, IfSome};
@@ -17,6 +17,7 @@ pub(crate) const NONE: &str = "{}";
 /// A name for two code points.
 pub(crate) const TWO: &str = "{\"&ab;\":{\"codepoints\":[120,824]}}";
 
+/// The rules of `--omit --unquote --tight`.
 pub(crate) const TIGHT_RULES: SpellRules = SpellRules {
     omit: true,
     unquote: true,
@@ -25,11 +26,13 @@ pub(crate) const TIGHT_RULES: SpellRules = SpellRules {
     frame: false,
 };
 
+/// The rules of `--omit --unquote`.
 pub(crate) const LOOSE_RULES: SpellRules = SpellRules {
     tight: false,
     ..TIGHT_RULES
 };
 
+/// A list of one attribute.
 pub(crate) fn attributes(alloc: Global, name: &str, value: &str) -> Result<Attrs, OutOfMemory>
     ensures { IfOk result (λ attrs. attributes_size attrs ≤ length name.now + length value.now) }
 {
@@ -38,7 +41,7 @@ pub(crate) fn attributes(alloc: Global, name: &str, value: &str) -> Result<Attrs
     Ok(attrs)
 }
 
-/// The tree of a page. None where it can't be read.
+/// The tree of a page. None if it can't be read.
 pub(crate) fn tree_of(alloc: Global, table: &Table, page: &str) -> Option<Tree>
     ensures { IfSome result Settled }
 {

@@ -1,3 +1,4 @@
+//! The order of attributes, and what they cost.
 use crate::made::{LOOSE_RULES, NONE, TIGHT_RULES, TWO, tree_of};
 use crate::rows::{cut, expect};
 use hm_base::{Format, OutOfMemory, SpellRules};
@@ -13,16 +14,19 @@ const AMP: &str = "{\"&amp\":{\"codepoints\":[38]},\"&amp;\":{\"codepoints\":[38
 /// Names for a space, which are shorter than its number.
 const SPACE: &str = "{\"&ab\":{\"codepoints\":[32]},\"&ab;\":{\"codepoints\":[32]}}";
 
+/// The rules of `--omit`.
 const PLAIN_RULES: SpellRules = SpellRules {
     unquote: false,
     ..LOOSE_RULES
 };
 
+/// The rules of `--omit --tight`.
 const QUOTED_RULES: SpellRules = SpellRules {
     unquote: false,
     ..TIGHT_RULES
 };
 
+/// The rules of `--omit --unquote --tight --ascii`.
 const ASCII_RULES: SpellRules = SpellRules {
     ascii: true,
     ..TIGHT_RULES
@@ -36,7 +40,7 @@ fn is_text(alloc: Global, table: &Table, rules: SpellRules, tree: &Tree, wanted:
     }
 }
 
-/// The tree of a page in order. None where it can't be read.
+/// The tree of a page in order. None if it can't be read.
 fn in_order_of(alloc: Global, table: &Table, rules: SpellRules, page: &str) -> Option<Tree> {
     let tree = tree_of(alloc, table, page)?;
     reorder(alloc, tree, table, rules).ok()
@@ -50,8 +54,8 @@ fn is_written(alloc: Global, table: &Table, rules: SpellRules, page: &str, wante
     }
 }
 
-/// In each line names of references, rules, a page, and after ` ⇒ ` its shortest text in order. The texts come from a second
-/// program that was written from the same rules.
+/// In each line names of references, rules, a page, and after ` ⇒ ` its shortest text in order. The texts come from a
+/// second program that was written from the same rules.
 const ORDERED: &str = "\
     none tight <!doctype html><a c=z b=\"x y\">t</a> ⇒ <!doctype html><a b=\"x y\"c=z>t</a>\n\
     none loose <!doctype html><a c=z b=\"x y\">t</a> ⇒ <!doctype html><a b=\"x y\" c=z>t</a>\n\
@@ -100,7 +104,7 @@ fn rules_of(word: &str) -> Option<SpellRules> {
     }
 }
 
-/// Whether what stands in a line after its names holds with a table.
+/// Whether the text in a line, after its names, is right with a table.
 fn is_ordered(alloc: Global, table: &Table, line: &str) -> bool {
     let (word, rest) = cut(line, " ");
     let (page, wanted) = cut(rest, " ⇒ ");
@@ -110,7 +114,7 @@ fn is_ordered(alloc: Global, table: &Table, line: &str) -> bool {
     }
 }
 
-/// Whether what stands in a line holds.
+/// Whether the text in a line is right.
 fn is_line(alloc: Global, line: &str) -> bool {
     let (word, rest) = cut(line, " ");
     match Table::read(alloc, names_of(word).as_bytes()) {
@@ -119,6 +123,7 @@ fn is_line(alloc: Global, line: &str) -> bool {
     }
 }
 
+/// Each page has its shortest text in order.
 #[test]
 fn in_order(rt: HostRuntime) {
     for line in ORDERED.lines() {
@@ -126,13 +131,13 @@ fn in_order(rt: HostRuntime) {
     }
 }
 
-/// The costs of `title="x y"`, where attributes may touch.
+/// The costs of `title="x y"` with `tight`.
 const TITLE: AttrCost = AttrCost {
     inner: 11,
     last: 11,
 };
 
-/// Those of `id=a`.
+/// The costs of `id=a`.
 const ID: AttrCost = AttrCost { inner: 5, last: 4 };
 
 /// Whether an attribute has these costs.
@@ -154,6 +159,7 @@ fn have_costs(alloc: Global) -> bool {
     }
 }
 
+/// Attributes have their costs.
 #[test]
 fn costs(rt: HostRuntime) {
     expect(&rt, have_costs(rt.alloc()), "costs");

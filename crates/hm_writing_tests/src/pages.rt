@@ -1,3 +1,4 @@
+//! The pages of `measure`.
 use crate::rows::{cut, expect, is_value};
 use hm_measure_page::page_of;
 use std::alloc::Global;
@@ -10,14 +11,15 @@ fn is_page(alloc: Global, wanted: &str) -> bool {
     }
 }
 
+/// The page of one block.
 #[test]
 fn one_block(rt: HostRuntime) {
     let wanted = "<!doctype html><title>0</title>\n<p>Item 1 &amp; more</p>\n";
     expect(&rt, is_page(rt.alloc(), wanted), wanted);
 }
 
-/// The number and the size of a page in each line, and its length, which comes from a program of its own, written from the same
-/// rules.
+/// In each line the number and the size of a page, and its length in bytes, which comes from a second program that was
+/// written from the same rules.
 const LENGTHS: &str = "\
     0 1 ⇒ 57\n\
     0 2 ⇒ 82\n\
@@ -48,6 +50,7 @@ fn is_line(alloc: Global, line: &str) -> bool {
     }
 }
 
+/// Pages have their lengths.
 #[test]
 fn lengths(rt: HostRuntime) {
     for line in LENGTHS.lines() {

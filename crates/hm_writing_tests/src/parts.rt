@@ -1,3 +1,4 @@
+//! The parts of events, and which tags may be omitted.
 #![tactic(auto, using(hm_tree::proofs::RoomLemmas::room))]
 
 ghost use Rattle.std.specs.Prelude.{◌≡◌, ◌+◌, ◌^◌, ◌<◌, ◌≤◌, length, [], false, true, IfOk, OnOk};
@@ -12,7 +13,7 @@ use hm_tree::{Attrs, Maker, Tree};
 use std::alloc::Global;
 use std::process::Abort;
 
-/// No attribute where the text is empty, else the one that it tells as `name=value`.
+/// No attribute if the text is empty, else the one that it writes as `name=value`.
 fn attributes_of(alloc: Global, text: &str) -> Result<Attrs, OutOfMemory>
     ensures { IfOk result (λ attrs. attributes_size attrs ≤ 200) }
 {
@@ -26,7 +27,7 @@ fn attributes_of(alloc: Global, text: &str) -> Result<Attrs, OutOfMemory>
     }
 }
 
-/// Starts the element of a name, with the attribute that stands after a space, if any.
+/// Starts the element of a name, with the attribute after a space, if any.
 fn start(alloc: Global, maker: &mut Maker, call: &str, foreign: bool) -> Result<(), OutOfMemory>
     requires events { length maker.old + length (path_after [] maker.old) + 2 < 2 ^ 29 }
     requires bytes { walk_size maker.old + 300 < 2 ^ 29 }
@@ -41,6 +42,7 @@ fn start(alloc: Global, maker: &mut Maker, call: &str, foreign: bool) -> Result<
     maker.start(name, foreign, attributes_of(alloc, attribute)?)
 }
 
+/// Adds a text.
 fn text(maker: &mut Maker, text: &str) -> Result<(), OutOfMemory>
     requires events { length maker.old + length (path_after [] maker.old) + 2 < 2 ^ 29 }
     requires bytes { walk_size maker.old + 300 < 2 ^ 29 }
@@ -55,6 +57,7 @@ fn text(maker: &mut Maker, text: &str) -> Result<(), OutOfMemory>
     maker.text(text, false)
 }
 
+/// Ends the innermost element.
 fn end(maker: &mut Maker) -> Result<(), OutOfMemory>
     ensures events { OnOk result (length maker.new + length (path_after [] maker.new) ≤ length maker.old + length (path_after [] maker.old) + 2) }
     ensures bytes { OnOk result (walk_size maker.new ≤ walk_size maker.old + 300) }
@@ -66,7 +69,8 @@ fn end(maker: &mut Maker) -> Result<(), OutOfMemory>
     maker.end()
 }
 
-/// Makes a call: `start` or `svg`, the start of an element of HTML or SVG, with its name and maybe an attribute; `text`; `end`.
+/// Makes a call: `start` or `svg`, the start of an element of HTML or SVG, with its name and maybe an attribute;
+/// `text`; `end`.
 fn take(alloc: Global, maker: &mut Maker, call: &str) -> Result<(), OutOfMemory>
     requires events { length maker.old + length (path_after [] maker.old) + 2 < 2 ^ 29 }
     requires bytes { walk_size maker.old + 300 < 2 ^ 29 }
@@ -85,7 +89,7 @@ fn take(alloc: Global, maker: &mut Maker, call: &str) -> Result<(), OutOfMemory>
     }
 }
 
-/// The tree of at most 50 calls, with a bar after each.
+/// The tree of at most 50 calls, each followed by a bar.
 fn made(alloc: Global, calls: &str) -> Result<Tree, OutOfMemory> {
     let mut maker = Tree::maker(alloc);
     let mut left = calls;
@@ -102,7 +106,7 @@ fn made(alloc: Global, calls: &str) -> Result<Tree, OutOfMemory> {
     Ok(maker.finish())
 }
 
-/// What is wanted after these parts, each in a line.
+/// The rest of the expected text after these parts, one in each line.
 fn after_parts<'w>(wanted: &'w str, parts: &[Part<'_>]) -> &'w str {
     let mut rest = wanted;
     for part in parts {
@@ -124,7 +128,7 @@ fn has_parts(alloc: Global, tree: &Tree, wanted: &str) -> bool {
     rest.is_empty()
 }
 
-/// The same of the tree of these calls.
+/// As `has_parts`, for the tree of these calls.
 fn has_made_parts(alloc: Global, calls: &str, wanted: &str) -> bool {
     match made(alloc, calls) {
         Ok(tree) => has_parts(alloc, &tree, wanted),
@@ -154,7 +158,7 @@ const TEXTS_AND_ATTRIBUTES_PARTS: &str = "\
     One { unit: EndTag { len: 1, omits: true, loosens: false }, own: \"p\" }\n\
     One { unit: EndTag { len: 3, omits: false, loosens: false }, own: \"div\" }\n";
 
-/// Two sections of a table, the first one empty: both end tags may be left out, and then the second start tag may not.
+/// Two sections of a table, the first one empty: both end tags may be omitted, and then the second start tag may not.
 const SECTIONS: &str = "start table|start thead|end|start tbody|start tr|end|end|end|";
 
 /// The parts of its events.
@@ -168,8 +172,8 @@ const SECTIONS_PARTS: &str = "\
     One { unit: EndTag { len: 5, omits: true, loosens: true }, own: \"tbody\" }\n\
     One { unit: EndTag { len: 5, omits: false, loosens: false }, own: \"table\" }\n";
 
-/// `<table><thead><tr><td>a</td></tr></thead><tbody><tr><td>b</td></tr></tbody></table>`: the start tag of the second section
-/// may be left out, but not where the end tag of the first one is.
+/// `<table><thead><tr><td>a</td></tr></thead><tbody><tr><td>b</td></tr></tbody></table>`: the start tag of the second
+/// section may be omitted, but not if the end tag of the first one is.
 const SECOND_SECTION: &str =
     "start table|start thead|start tr|start td|text a|end|end|end|start tbody|start tr|start td|text b|end|end|end|end|";
 
@@ -224,7 +228,8 @@ const PARAGRAPH_IN_A_SPAN_PARTS: &str = "\
     One { unit: EndTag { len: 1, omits: false, loosens: false }, own: \"p\" }\n\
     One { unit: EndTag { len: 4, omits: false, loosens: false }, own: \"span\" }\n";
 
-/// `<html><head></head><body><div><p>x</p></div><p>y</p></body></html>`: both paragraphs may leave out their end tags.
+/// `<html><head></head><body><div><p>x</p></div><p>y</p></body></html>`: the end tags of both paragraphs may be
+/// omitted.
 const PARAGRAPHS: &str =
     "start html|start head|end|start body|start div|start p|text x|end|end|start p|text y|end|end|end|";
 
@@ -245,7 +250,7 @@ const PARAGRAPHS_PARTS: &str = "\
     One { unit: EndTag { len: 4, omits: true, loosens: false }, own: \"body\" }\n\
     One { unit: EndTag { len: 4, omits: true, loosens: false }, own: \"html\" }\n";
 
-/// `<svg><path></path>a</svg><title>b</title>`: an element of SVG that ends at once may close itself.
+/// `<svg><path></path>a</svg><title>b</title>`: an element of SVG without content may close itself.
 const SVG: &str = "svg svg|svg path|end|text a|end|start title|text b|end|";
 
 /// The parts of its events.
@@ -264,6 +269,7 @@ fn expect_parts(rt: &impl Abort, alloc: Global, calls: &str, wanted: &str) {
     expect(rt, has_made_parts(alloc, calls, wanted), calls);
 }
 
+/// Trees have their parts.
 #[test]
 fn parts_of_events(rt: HostRuntime) {
     let alloc = rt.alloc();

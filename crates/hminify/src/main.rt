@@ -1,6 +1,7 @@
-//! The program: `main` calls `run` of `hm_minify` over real files. Its words are `minify TABLE PAGE OUT CERT`, or `check`, `fragment`,
-//! `checkfragment` or `minifyjson` with the same names, `tree TABLE PAGE`, or `json` or `explain` with the same, or `measure TABLE NUMBER
-//! SIZE`, and flags; or `help` or `version` alone. What went wrong is told on standard error.
+//! The program: `main` calls `run` of `hm_minify` over real files. Its arguments are `minify TABLE PAGE OUT CERT`, or
+//! `check`, `fragment`, `checkfragment` or `minifyjson` with the same names, `tree TABLE PAGE`, or `json` or `explain`
+//! with the same, or `measure TABLE NUMBER SIZE`, and flags; or `help` or `version` alone. What went wrong is printed
+//! on standard error.
 #![tactic(auto)]
 
 use hm_base::{CERTIFICATE_LIMIT, OwnedText};
@@ -13,13 +14,13 @@ use std::process::ExitCode;
 use std::rt::Env;
 use std::{env, io};
 
-/// Why there are no words.
+/// Why the arguments couldn't be read.
 enum NoWords {
     Unknown,
     OutOfMemory,
 }
 
-/// The words after the program's name.
+/// The arguments after the program's name.
 fn words<R: Env + AllocGlobal>(rt: &R) -> Result<Vec<OwnedText>, NoWords> {
     let mut words = Vec::new(rt.alloc());
     match env::args(rt) {
@@ -39,7 +40,7 @@ fn words<R: Env + AllocGlobal>(rt: &R) -> Result<Vec<OwnedText>, NoWords> {
     }
 }
 
-/// Why a call has failed, as the system tells it, without the number of the error.
+/// Why a call failed, as the system says it, without the number of the error.
 fn reason(alloc: Global, error: io::Error) -> Result<String, AllocError> {
     let text = format!(in alloc; "{error}")?;
     let words = text.as_str();
@@ -49,7 +50,7 @@ fn reason(alloc: Global, error: io::Error) -> Result<String, AllocError> {
     }
 }
 
-/// That a call on a file, or on the output, has failed.
+/// The message for a failed system call.
 fn call_fault(
     alloc: Global,
     name: Option<&str>,
@@ -65,7 +66,7 @@ fn call_fault(
     }
 }
 
-/// Whether a `no` says that rules, trees or layers differ, by its first bytes.
+/// Whether a `no` means that rules, trees or layers differ. `begin` is its first four bytes.
 fn is_of_flags(begin: Option<[u8; 4]>) -> bool {
     match begin {
         Some(begin) => {
@@ -78,7 +79,7 @@ fn is_of_flags(begin: Option<[u8; 4]>) -> bool {
     }
 }
 
-/// Whether the words ask for a certificate that is written.
+/// Whether the arguments ask for a certificate to be written.
 fn writes(words: &[OwnedText]) -> bool {
     match words
         .iter()
@@ -89,7 +90,7 @@ fn writes(words: &[OwnedText]) -> bool {
     }
 }
 
-/// That the certificate that was written is larger than `check` reads.
+/// The message for a written certificate that is larger than `check` reads.
 fn size_fault(
     alloc: Global,
     words: &[OwnedText],
@@ -106,6 +107,7 @@ fn size_fault(
     }
 }
 
+/// Runs the program on real files, and returns its exit status.
 fn main(rt: HostRuntime) -> ExitCode {
     let alloc = rt.alloc();
     match words(&rt) {

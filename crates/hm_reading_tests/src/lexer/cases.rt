@@ -1,5 +1,5 @@
-//! Pages and their tokens, after the HTML Standard (#tokenization). In each line a page stands before ` ⇒ `, and after
-//! it what is printed of its tokens.
+//! Pages and their tokens, after the HTML Standard (#tokenization). In each line there is a page before ` ⇒ `, and
+//! after it what is printed of its tokens.
 
 /// Text, comments and doctypes (#data-state, #tag-open-state to #end-tag-open-state, #bogus-comment-state to
 /// #bogus-doctype-state, #character-reference-state to #numeric-character-reference-end-state).

@@ -59,7 +59,7 @@ const TREES: &str = "\
     <p title=\"</body>\"> ⇒ [\"start\",\"p\",[[\"title\",\"</body>\"]]],[\"end\"],\n";
 
 /// As `TREES`, with the first token that closes body, if the page isn't refused.
-const INFINITE: &str = "\
+const CLOSES_BODY: &str = "\
     a</body> ⇒ (FrameEnd, 1)\n\
     a</html> ⇒ (FrameEnd, 1)\n\
     </body></html> ⇒ (FrameEnd, 0)\n\
@@ -125,7 +125,7 @@ fn expect_others(rt: &impl Abort, alloc: Global, table: &Table) {
 fn fragments_have_trees_or_refusals(rt: HostRuntime) -> Result<(), Fail> {
     let table = Table::empty(rt.alloc())?;
     expect_lines(&rt, rt.alloc(), &table, TREES);
-    expect_lines(&rt, rt.alloc(), &table, INFINITE);
+    expect_lines(&rt, rt.alloc(), &table, CLOSES_BODY);
     expect_lines(&rt, rt.alloc(), &table, REFUSED);
     expect_others(&rt, rt.alloc(), &table);
     Ok(())

@@ -28,17 +28,6 @@ pub void_by_class : (n : List ℕ) → holds_nothing (class_of n) ≡ is_void n
 unfolding void_agrees
 void_by_class n = same_is (holds_nothing (class_of n)) (is_void n) (by_list void_agrees n listed_voids (λ e. rw (no_class n e, no_void n e) refl))
 
-raw_agrees : List ℕ → Bool
-raw_agrees n = same_flag (holds_raw_text (class_of n)) (is_raw n)
-
-listed_raws : list_all raw_agrees listed ≡ true
-unfolding raw_agrees class_of is_root roots is_void voids is_rcdata rcdata_names is_raw raw_names is_table_part parts is_refused refused_names is_among
-listed_raws = refl
-
-pub raw_by_class : (n : List ℕ) → holds_raw_text (class_of n) ≡ is_raw n
-unfolding raw_agrees
-raw_by_class n = same_is (holds_raw_text (class_of n)) (is_raw n) (by_list raw_agrees n listed_raws (λ e. rw (no_class n e, no_raw n e) refl))
-
 text_agrees : List ℕ → Bool
 text_agrees n = same_flag (holds_one_text (class_of n)) (holds_text n)
 

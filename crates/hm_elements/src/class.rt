@@ -1,25 +1,28 @@
-//! Classes of elements, and lists of elements and attributes by name.
+//! Classes of elements, and lists of elements and attributes, by name.
 ghost use Rattle.std.specs.Prelude.{◌≡◌};
 ghost use Rattle.hm_elements.specs.Classes as classes;
 ghost use Rattle.hm_elements.specs.Tables as tables;
 
+use crate::flags::{
+    BLOCK, BOOLEAN, BOUNDARY, CLOSES_P, HEADING, RAW, REFUSED, SVG, UNNESTED, VOID, is_listed,
+};
 use crate::kind::kind_of;
 use crate::look_up::is_one_of;
 
-/// The class of an element, by what it may contain and how its text is read.
+/// What kind of element a name stands for.
 #[derive(Clone, Copy, Debug, PartialEq, Eq)]
 pub enum Class {
     /// `html`, `head`, `body`.
     Root,
-    /// It has no children and no end tag (HTML Standard, #elements-2).
+    /// It holds nothing and has no end tag (HTML Standard, #elements-2).
     Void,
-    /// It holds one text, whose character references are read.
+    /// It holds one text, in which character references are read.
     Rcdata,
-    /// It holds one text, in which nothing is read: no tags, no comments and no character references.
+    /// It holds one text, in which nothing is read.
     Raw,
-    /// `script`: as `Raw`, but its text ends by rules of its own.
+    /// `script`, whose text ends by rules of its own.
     Script,
-    /// `table` and the elements that are only in tables, except for `col`, which is void.
+    /// `table` and what stands in it, except for `col`, which is void.
     TablePart,
     Ordinary,
     /// A page with this element is refused.
@@ -27,18 +30,11 @@ pub enum Class {
 }
 
 impl Class {
-    /// Whether elements of this class have no children and no end tag.
+    /// Whether its elements hold nothing.
     pub(crate) fn holds_nothing(self) -> bool
         ensures { result ≡ classes.holds_nothing self }
     {
         matches!(self, Class::Void)
-    }
-
-    /// Whether elements of this class hold one text, in which nothing is read.
-    fn holds_raw_text(self) -> bool
-        ensures { result ≡ classes.holds_raw_text self }
-    {
-        matches!(self, Class::Raw | Class::Script)
     }
 
     /// Whether elements of this class hold one text and nothing else.
@@ -46,13 +42,6 @@ impl Class {
         ensures { result ≡ classes.holds_one_text self }
     {
         matches!(self, Class::Rcdata | Class::Raw | Class::Script)
-    }
-
-    /// Whether a page with an element of this class is refused.
-    fn is_not_read(self) -> bool
-        ensures { result ≡ classes.is_not_read self }
-    {
-        matches!(self, Class::Refused)
     }
 }
 
@@ -63,20 +52,20 @@ pub fn class_of(name: &str) -> Class
     kind_of(name).class
 }
 
-/// Whether the HTML element has no children and no end tag (#elements-2).
-#[tactic(auto, using(crate::proofs::ClassFacts::void_by_class))]
+/// Whether the HTML element holds nothing and has no end tag (#elements-2).
+#[tactic(auto, unfolding(crate::specs::Rows::listed_at, crate::specs::Rows::flags, crate::specs::Tables::is_void))]
 pub fn is_void(name: &str) -> bool
     ensures { result ≡ tables.is_void name.now }
 {
-    kind_of(name).class.holds_nothing()
+    is_listed(name, VOID)
 }
 
-/// Whether the HTML element holds one text, in which nothing is read. `script` is one of them.
-#[tactic(auto, using(crate::proofs::ClassFacts::raw_by_class))]
+/// Whether the HTML element holds one text, in which nothing is read; `script` is one of them.
+#[tactic(auto, unfolding(crate::specs::Rows::listed_at, crate::specs::Rows::flags, crate::specs::Tables::is_raw))]
 pub fn is_raw(name: &str) -> bool
     ensures { result ≡ tables.is_raw name.now }
 {
-    kind_of(name).class.holds_raw_text()
+    is_listed(name, RAW)
 }
 
 /// Whether the HTML element holds one text and nothing else.
@@ -88,158 +77,69 @@ pub fn holds_text(name: &str) -> bool
 }
 
 /// Whether a page with this element is refused.
-#[tactic(auto, using(crate::proofs::ClassFacts::refused_by_class))]
+#[tactic(auto, unfolding(crate::specs::Rows::listed_at, crate::specs::Rows::flags, crate::specs::Tables::is_refused))]
 pub fn is_refused(name: &str) -> bool
     ensures { result ≡ tables.is_refused name.now }
 {
-    kind_of(name).class.is_not_read()
+    is_listed(name, REFUSED)
 }
 
 /// Whether it is one of `h1` to `h6`.
+#[tactic(auto, unfolding(crate::specs::Rows::listed_at, crate::specs::Rows::flags, crate::specs::Tables::is_heading))]
 pub fn is_heading(name: &str) -> bool
     ensures { result ≡ tables.is_heading name.now }
 {
-    kind_of(name).heading
+    is_listed(name, HEADING)
 }
 
-/// Whether the element may not be inside one of the same name.
+/// Whether the element may not stand in one of its own name.
+#[tactic(auto, unfolding(crate::specs::Rows::listed_at, crate::specs::Rows::flags, crate::specs::Tables::is_unnested))]
 pub fn is_unnested(name: &str) -> bool
     ensures { result ≡ tables.is_unnested name.now }
 {
-    kind_of(name).unnested
+    is_listed(name, UNNESTED)
 }
 
 /// Whether a start tag of this name closes an open paragraph (#parsing-main-inbody).
+#[tactic(auto, unfolding(crate::specs::Rows::listed_at, crate::specs::Rows::flags, crate::specs::Tables::closes_p))]
 pub fn closes_p(name: &str) -> bool
     ensures { result ≡ tables.closes_p name.now }
 {
-    kind_of(name).closes_p
+    is_listed(name, CLOSES_P)
 }
 
-/// Whether no paragraph around this open element is closed from inside it. `foreign` is true for an element of SVG.
-#[tactic(auto, unfolding(crate::specs::Tables::is_boundary, crate::specs::Tables::svg_boundaries))]
+/// Whether a paragraph is never closed through this open element, of HTML or of SVG.
+#[tactic(auto, unfolding(crate::specs::Rows::listed_at, crate::specs::Rows::flags, crate::specs::Tables::is_boundary, crate::specs::Tables::svg_boundaries))]
 pub fn is_boundary(name: &str, foreign: bool) -> bool
     ensures { result ≡ tables.is_boundary name.now foreign }
 {
     if foreign {
         is_one_of(name, &["title", "desc"])
     } else {
-        kind_of(name).boundary
+        is_listed(name, BOUNDARY)
     }
 }
 
-/// Whether whitespace at the edges of the HTML element isn't rendered.
+/// Whether whitespace at the edges of the HTML element isn't seen.
+#[tactic(auto, unfolding(crate::specs::Rows::listed_at, crate::specs::Rows::flags, crate::specs::Tables::is_block))]
 pub fn is_block(name: &str) -> bool
     ensures { result ≡ tables.is_block name.now }
 {
-    kind_of(name).block
+    is_listed(name, BLOCK)
 }
 
-/// Whether it is a boolean attribute: its value means nothing.
-#[tactic(auto, unfolding(crate::specs::Tables::is_boolean, crate::specs::Tables::boolean_attributes))]
+/// Whether the attribute's value says nothing.
+#[tactic(auto, unfolding(crate::specs::Rows::listed_at, crate::specs::Rows::flags, crate::specs::Tables::is_boolean))]
 pub fn is_boolean(attribute: &str) -> bool
     ensures { result ≡ tables.is_boolean attribute.now }
 {
-    is_one_of(
-        attribute,
-        &[
-            "allowfullscreen",
-            "async",
-            "autofocus",
-            "autoplay",
-            "checked",
-            "controls",
-            "default",
-            "defer",
-            "disabled",
-            "formnovalidate",
-            "inert",
-            "ismap",
-            "itemscope",
-            "loop",
-            "multiple",
-            "muted",
-            "nomodule",
-            "novalidate",
-            "open",
-            "playsinline",
-            "readonly",
-            "required",
-            "reversed",
-            "selected",
-        ],
-    )
+    is_listed(attribute, BOOLEAN)
 }
 
-/// The names of SVG's elements that are allowed, in lowercase letters.
-const SVG: [&str; 61] = [
-    "a",
-    "animate",
-    "animatemotion",
-    "animatetransform",
-    "circle",
-    "clippath",
-    "defs",
-    "desc",
-    "ellipse",
-    "feblend",
-    "fecolormatrix",
-    "fecomponenttransfer",
-    "fecomposite",
-    "feconvolvematrix",
-    "fediffuselighting",
-    "fedisplacementmap",
-    "fedistantlight",
-    "fedropshadow",
-    "feflood",
-    "fefunca",
-    "fefuncb",
-    "fefuncg",
-    "fefuncr",
-    "fegaussianblur",
-    "feimage",
-    "femerge",
-    "femergenode",
-    "femorphology",
-    "feoffset",
-    "fepointlight",
-    "fespecularlighting",
-    "fespotlight",
-    "fetile",
-    "feturbulence",
-    "filter",
-    "g",
-    "image",
-    "line",
-    "lineargradient",
-    "marker",
-    "mask",
-    "metadata",
-    "mpath",
-    "path",
-    "pattern",
-    "polygon",
-    "polyline",
-    "radialgradient",
-    "rect",
-    "set",
-    "stop",
-    "style",
-    "svg",
-    "switch",
-    "symbol",
-    "text",
-    "textpath",
-    "title",
-    "tspan",
-    "use",
-    "view",
-];
-
-/// Whether an SVG element of this name is allowed. The name is in lowercase letters (#elements-2).
-#[tactic(auto, unfolding(crate::specs::Tables::is_svg_name, crate::specs::Tables::svg_names))]
+/// Whether SVG has an element of this name that is read, in lowercase letters (#elements-2).
+#[tactic(auto, unfolding(crate::specs::Rows::listed_at, crate::specs::Rows::flags, crate::specs::Tables::is_svg_name))]
 pub fn svg_name(name: &str) -> bool
     ensures { result ≡ tables.is_svg_name name.now }
 {
-    is_one_of(name, &SVG)
+    is_listed(name, SVG)
 }

@@ -1,118 +1,104 @@
-//! All that the tables say about a name, in one value.
-ghost use Rattle.std.specs.Prelude.{◌≡◌};
+//! What the tables say of a name, all at once.
+ghost use Rattle.std.specs.Prelude.{◌≡◌, length, map};
 ghost use Rattle.std.specs.Option.{ForSome};
+ghost use Rattle.hm_elements.specs.declared.names.TheConstants.{NAME_COUNT};
 ghost use Rattle.hm_elements.specs.Kinds as kinds;
-ghost use Rattle.hm_elements.specs.KnownNames.{HasName, kind_at, kind_in};
+ghost use Rattle.hm_elements.specs.Numbers.{names, number_of, text_of};
 ghost use Rattle.hm_elements.specs.Tables as tables;
 
 use crate::class::Class;
-use crate::known::{Known, OTHER, UNKNOWN, beginning_with};
+use crate::kinds::KINDS;
 use crate::known_name::KnownName;
-use crate::look_up::same_name;
+use crate::name::Name;
 
-/// All that the tables say about the name of an HTML element.
+/// What the tables say of a name of an HTML element.
 #[derive(Clone, Copy)]
 pub struct Kind {
+    /// The name's number.
+    pub(crate) number: u8,
     pub class: Class,
     /// One of `h1` to `h6`.
     pub heading: bool,
-    /// It may not be inside one of the same name.
+    /// It may not stand in one of its own name.
     pub unnested: bool,
     /// Its start tag closes an open paragraph (HTML Standard, #parsing-main-inbody).
     pub closes_p: bool,
-    /// No paragraph around it is closed from inside it.
+    /// A paragraph is never closed through it.
     pub boundary: bool,
-    /// Whitespace at its edges isn't rendered.
+    /// Whitespace at its edges isn't seen.
     pub block: bool,
-    /// Some start tags close it.
+    /// It closes before some start tags.
     pub is_closed_by_start: bool,
-    /// Its start tag closes a `p` that is the innermost element.
+    /// A `p` that is the innermost element closes before its start tag.
     pub closes_open_p: bool,
-    /// Some end tags of other names close it (#optional-tags).
+    /// It ends with some end tags of other names (#optional-tags).
     pub ends: bool,
-    /// Its end tag closes a `p` that is the innermost element.
+    /// A `p` ends with its end tag.
     pub p_ends: bool,
-    /// Only children of certain names are allowed in it.
+    /// It takes only children of certain names.
     pub has_children: bool,
-    /// If its parent allows any children, only parents of certain names are allowed.
+    /// Where its parent takes any children, it stands only in parents of certain names.
     pub has_parents: bool,
-    /// It is only allowed in parents that list their children by name.
+    /// It stands only in parents that take only children of certain names.
     pub bound: bool,
 }
 
-/// What the tables say about the name.
+/// The kind with each number.
+fn kinds() -> &'static [Kind]
+    ensures kinds { result.now ≡ map kinds.kind names }
+    ensures many { length result.now ≡ NAME_COUNT }
+{
+    &KINDS
+}
+
+/// What the tables say of the name with this number.
+#[tactic(auto, using(crate::proofs::KindFacts::kind_at))]
+fn kind_at(name: Name) -> &'static Kind
+    ensures { result.now ≡ kinds.kind (text_of name.number) }
+{
+    &kinds()[name.place()]
+}
+
+/// What the tables say of the name.
+#[tactic(auto, using(crate::proofs::KindFacts::kind_named))]
 pub fn kind_of(name: &str) -> Kind
     ensures { result ≡ kinds.kind name.now }
 {
-    match find_known(name) {
-        Some(known) => known.1,
-        None => OTHER,
-    }
+    *kind_at(Name::of(name))
 }
 
-/// The name with its kind, if it is a known one.
-fn find_known(name: &str) -> Option<&'static Known>
-    ensures kind { kind_at result ≡ kinds.kind name.now }
-    ensures name { HasName name.now result }
-{
-    match name.as_bytes().first() {
-        Some(first) => find_among(name, beginning_with(*first)),
-        None => None,
-    }
-}
-
-/// The name with its kind, if it is among these.
-fn find_among(name: &str, among: &'static [Known]) -> Option<&'static Known>
-    ensures kind { kind_at result ≡ kind_in among.now name.now }
-    ensures name { HasName name.now result }
-{
-    for known in among {
-        if same_name(known.0, name) {
-            return Some(known);
-        }
-    }
-    None
-}
-
-/// The name of an HTML element, with what the tables say about it. It is looked up once, and then kept.
+/// A name of an HTML element, with what the tables say of it: looked up once, and kept.
 #[derive(Clone, Copy)]
 pub struct Named<'n> {
     name: &'n str,
     kind: &'n Kind,
-    text: Option<KnownName>,
     ghost known: { kind.now ≡ kinds.kind name.now },
-    ghost same: { ForSome text (λ t. t.text.now ≡ name.now) },
 }
 
 impl<'n> Named<'n> {
-    /// The name with its kind from the tables.
+    /// The name, looked up in the tables.
+    #[tactic(auto, using(crate::proofs::KindFacts::kind_named))]
     pub fn of(name: &'n str) -> Named<'n>
         ensures { result.name.now ≡ name.now }
     {
-        match find_known(name) {
-            Some(known) => Named {
-                name,
-                kind: &known.1,
-                text: Some(KnownName::new(known.0)),
-            },
-            None => Named {
-                name,
-                kind: &UNKNOWN,
-                text: None,
-            },
-        }
+        let kind = kind_at(Name::of(name));
+        Named { name, kind }
     }
 
-    /// The name with its kind from an earlier look-up.
+    /// The name with its kind, which is known from an earlier look-up.
     pub fn known(name: &'n str, kind: &'n Kind) -> Named<'n>
         requires { kind.now ≡ kinds.kind name.now }
         ensures { result.name.now ≡ name.now }
     {
-        Named {
-            name,
-            kind,
-            text: None,
-        }
+        Named { name, kind }
+    }
+
+    /// The number of the name.
+    #[tactic(auto, using(crate::proofs::KindFacts::number_in_kind, crate::proofs::Finding::number_below))]
+    pub fn number(self) -> Name
+        ensures { result.number ≡ number_of self.entry.name.now }
+    {
+        Name::with(self.kind.number)
     }
 
     /// The name.
@@ -122,21 +108,26 @@ impl<'n> Named<'n> {
         self.name
     }
 
-    /// What the tables say about the name.
+    /// What the tables say of it.
     pub fn kind(self) -> &'n Kind
         ensures { result.now ≡ kinds.kind self.entry.name.now }
     {
         self.kind
     }
 
-    /// The name as a constant of the program. None if it is unknown, or was given by `known`.
+    /// The name as its table holds it, if it is known.
+    #[tactic(auto, using(crate::proofs::KindFacts::text_of_known))]
     pub fn known_name(self) -> Option<KnownName>
         ensures { ForSome result (λ t. t.text.now ≡ self.entry.name.now) }
     {
-        self.text
+        let name = self.number();
+        if name.is_other() {
+            return None;
+        }
+        Some(KnownName::new(name.text()))
     }
 
-    /// Whether the HTML element has no children and no end tag (HTML Standard, #elements-2).
+    /// Whether the HTML element holds nothing and has no end tag (HTML Standard, #elements-2).
     #[tactic(auto, using(crate::proofs::ClassFacts::void_by_class))]
     pub fn is_void(self) -> bool
         ensures { result ≡ tables.is_void self.entry.name.now }

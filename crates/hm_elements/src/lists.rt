@@ -1,4 +1,4 @@
-//! Lists of elements and attributes for single rules of tree construction and of rewrites.
+//! Lists of elements and attributes that single rules of tree construction and of rewriting ask for.
 ghost use Rattle.std.specs.Prelude.{◌≡◌, map};
 ghost use Rattle.std.specs.Str.{str_eq_ignore_ascii_case};
 ghost use Rattle.hm_base.specs.Bytes.{lower};
@@ -7,6 +7,7 @@ ghost use Rattle.hm_elements.specs.Names.{is_among};
 ghost use Rattle.hm_elements.specs.Paths.{blank_parents};
 ghost use Rattle.hm_elements.specs.Tables as tables;
 
+use crate::flags::{BLANK_PARENT, METADATA, SPACE_PARENT, is_listed};
 use crate::look_up::{is_one_of, same_name};
 
 /// Whether the element is `html`, `head` or `body`.
@@ -17,7 +18,7 @@ pub fn is_root(name: &str) -> bool
     is_one_of(name, &["html", "head", "body"])
 }
 
-/// Whether the HTML element holds one text, whose character references are read.
+/// Whether the HTML element holds one text, in which character references are read.
 #[tactic(auto, unfolding(crate::specs::Tables::is_rcdata, crate::specs::Tables::rcdata_names))]
 pub fn is_rcdata(name: &str) -> bool
     ensures { result ≡ tables.is_rcdata name.now }
@@ -40,16 +41,16 @@ pub fn is_cell(name: &str) -> bool
     is_one_of(name, &["td", "th"])
 }
 
-/// Whether the element is metadata, which isn't allowed between `head` and `body` (HTML Standard,
+/// Whether the element is metadata, which doesn't stand between `head` and `body` (HTML Standard,
 /// #the-after-head-insertion-mode).
-#[tactic(auto, unfolding(crate::specs::Tables::is_metadata))]
+#[tactic(auto, unfolding(crate::specs::Rows::listed_at, crate::specs::Rows::flags, crate::specs::Tables::is_metadata))]
 pub fn is_metadata(name: &str) -> bool
     ensures { result ≡ tables.is_metadata name.now }
 {
-    is_one_of(name, &["base", "link", "meta", "script", "style", "title"])
+    is_listed(name, METADATA)
 }
 
-/// Whether all whitespace in the HTML element is rendered, and an LF directly after its start tag is dropped
+/// Whether whitespace is seen as it is in the HTML element, and a line feed directly after its start tag is dropped
 /// (#parsing-main-inbody).
 pub fn is_preformatted(name: &str) -> bool
     ensures { result ≡ is_among name.now tables.preformatted }
@@ -57,41 +58,30 @@ pub fn is_preformatted(name: &str) -> bool
     is_one_of(name, &["pre", "textarea"])
 }
 
-/// Whether only whitespace is allowed as text directly in the HTML element.
-#[tactic(auto, unfolding(crate::specs::Paths::blank_parents))]
+/// Whether a text directly in the HTML element is only whitespace.
+#[tactic(auto, unfolding(crate::specs::Rows::listed_at, crate::specs::Rows::flags))]
 pub fn is_blank_parent(name: &str) -> bool
     ensures { result ≡ is_among name.now blank_parents }
 {
-    is_one_of(
-        name,
-        &[
-            "head", "table", "thead", "tbody", "tfoot", "tr", "colgroup", "select", "optgroup",
-        ],
-    )
+    is_listed(name, BLANK_PARENT)
 }
 
-/// Whether a text of only whitespace directly in the HTML element isn't rendered.
-#[tactic(auto, unfolding(crate::specs::Tables::space_parents))]
+/// Whether a text of only whitespace isn't seen directly in the HTML element.
+#[tactic(auto, unfolding(crate::specs::Rows::listed_at, crate::specs::Rows::flags))]
 pub fn is_space_parent(name: &str) -> bool
     ensures { result ≡ is_among name.now tables.space_parents }
 {
-    is_one_of(
-        name,
-        &[
-            "html", "head", "table", "colgroup", "thead", "tbody", "tfoot", "tr", "select",
-            "optgroup", "datalist", "ul", "ol", "menu", "dir", "dl",
-        ],
-    )
+    is_listed(name, SPACE_PARENT)
 }
 
-/// Whether the attribute means nothing if its value is only whitespace.
+/// Whether the attribute says nothing where its value is only whitespace.
 pub fn says_nothing_blank(attribute: &str) -> bool
     ensures { result ≡ is_among attribute.now attributes.nothing_blank }
 {
     is_one_of(attribute, &["class", "id", "style"])
 }
 
-/// Whether the attribute of the HTML element has its default value.
+/// Whether the attribute of the HTML element says what holds without it.
 #[tactic(auto, unfolding(crate::specs::Attributes::is_redundant, crate::specs::Attributes::defaults, hm_base::specs::Bytes::lower))]
 pub fn is_redundant(element: &str, name: &str, value: &str) -> bool
     ensures { result ≡ attributes.is_redundant element.now (record { name = name.now; value = value.now }) }
@@ -104,7 +94,7 @@ pub fn is_redundant(element: &str, name: &str, value: &str) -> bool
         || is_default(element, name, value, "style", "type", "text/css")
 }
 
-/// Whether this is the attribute `called` of the element `of`, with the value `default` in any ASCII case.
+/// Whether this is that attribute of that element, with that value in any ASCII case.
 #[tactic(auto, unfolding(crate::specs::Attributes::is_default), using(crate::proofs::Defaults::same_but_case))]
 fn is_default(element: &str, name: &str, value: &str, of: &str, called: &str, default: &str) -> bool
     requires { map lower default.now ≡ default.now }
@@ -113,7 +103,7 @@ fn is_default(element: &str, name: &str, value: &str, of: &str, called: &str, de
     same_name(element, of) && same_name(name, called) && is_but_for_case(value, default)
 }
 
-/// Whether a value is this word in any ASCII case.
+/// Whether a value is that word apart from the case of its ASCII letters.
 fn is_but_for_case(value: &str, word: &str) -> bool
     ensures { result ≡ str_eq_ignore_ascii_case value.now word.now }
 {

@@ -1,3 +1,4 @@
+-- handed on from crates/hm_shortest/proofs, for hm_minify, which doesn't list that crate
 pub use Rattle.hm_shortest.proofs.Headline
 pub mod Prices
 pub mod Values

@@ -9,5 +9,6 @@ mod scan;
 mod tags;
 
 pub use costs::{AttrCost, attr_cost, best_last};
+// Handed on from crates/hm_shortest/src, for hm_minify, which doesn't list that crate.
 pub use hm_shortest::{Minified, minify_tree};
 pub use orders::reorder;

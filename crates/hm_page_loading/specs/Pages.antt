@@ -10,7 +10,7 @@ use Rattle.hm_store.specs.declared.whole_files.LoadFault.{LoadFault}
 use Rattle.hm_store.specs.declared.whole_files.LoadFault.TheVariants as loads
 use Rattle.hm_refs.specs.Names.{Entry}
 use Rattle.hm_build.specs.Trees.{built, refused_by}
--- also for a caller that doesn't name hm_build
+-- handed on from crates/hm_build/specs, for hm_input and hm_minify, which don't list that crate
 pub use Rattle.hm_build.specs.Feeding.{page_outcome_within}
 pub use Rattle.hm_build.specs.Parsing.{IsRefusedAs}
 use Rattle.hm_page_loading.specs.declared.fault.PageLoadFault.{PageLoadFault}

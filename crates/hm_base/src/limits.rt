@@ -12,6 +12,9 @@ pub const OUTPUT_LIMIT: u32 = 67_108_864;
 /// The most bytes of a certificate that is checked.
 pub const CERTIFICATE_LIMIT: u32 = 268_435_456;
 
+/// The most bytes of a tree in JSON.
+pub const JSON_LIMIT: u32 = 67_108_864;
+
 /// The most attributes that may be written in one tag, repeats counted.
 pub const ATTRIBUTE_LIMIT: u32 = 256;
 

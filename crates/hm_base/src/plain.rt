@@ -1,7 +1,4 @@
 //! Plain types that several crates share.
-ghost use Rattle.std.specs.Prelude.{◌≡◌};
-ghost use Rattle.hm_base.specs.Bytes as bytes;
-
 use std::alloc::{AllocError, AllocFailed};
 use std::convert::AsStr;
 use std::marker::Model;
@@ -83,12 +80,4 @@ pub enum Format {
     /// In the graph without dominated edges: the first, the last, and those in which at least one state has no edge or
     /// more than one.
     Sparse,
-}
-
-/// Whether `c` is ASCII whitespace: TAB, LF, FF, CR or SPACE.
-#[tactic(auto, unfolding(crate::specs::Bytes::is_space))]
-pub fn is_space(c: char) -> bool
-    ensures { result ≡ bytes.is_space c }
-{
-    c == '\t' || c == '\n' || c == '\u{c}' || c == '\r' || c == ' '
 }

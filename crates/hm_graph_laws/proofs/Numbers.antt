@@ -11,7 +11,7 @@ use Rattle.hm_refs.specs.References.{Reference, decimal_number, is_semicolon, nu
 use Rattle.hm_refs.specs.Tables.{IsIn, IsTable, first, later}
 use Rattle.hm_refs.proofs.Bools.{eq_of}
 use Rattle.hm_refs.proofs.NumberLaws.{best_least}
-use Rattle.hm_refs.proofs.RunEnds.{front_passes}
+use Rattle.hm_base.proofs.Bytes.{front_passes}
 use Rattle.hm_refs.proofs.Shortest.{digits_give, shorter, shortest}
 use Rattle.hm_spelling_spec.specs.Characters.{Spot, is_value}
 use Rattle.hm_graph_laws.specs.States.{decimal, hexadecimal, nothing}

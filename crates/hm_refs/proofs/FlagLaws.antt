@@ -1,5 +1,6 @@
 -- The flags of plain characters: those of the listed bytes, and of each name one after another.
 use Rattle.std.proofs.Common.{◌≡◌, ℕ, zero, suc, ◌+◌, ◌<◌, ◌≤◌, ◌⊎◌, inl, inr, Bool, true, false, not, ◌&&◌, ◌||◌, ◌==◌, nat_lt, List, [], ◌∷◌, ◌++◌, length, get_or, set, take, replicate, refl, sym, ap, ◌∙◌, subst, arith}
+use Rattle.std.proofs.Math.Bool.{and-false, and-true, or-false, or-true}
 use Rattle.std.specs.List.{list_all}
 use Rattle.std.proofs.lemmas.Bool.{cases_eq}
 use Rattle.std.proofs.lemmas.List.{take_more, take_all, length-set, get_or-replicate, get_or-set_same, get_or-set_other, get_or-map, length-map}
@@ -11,14 +12,6 @@ use Rattle.hm_refs.specs.Nodes.{entry_of, entries_of}
 use Rattle.hm_refs.specs.Flags.{IsFlagged}
 use Rattle.hm_refs.specs.declared.nodes.ReferenceName.{ReferenceName}
 use Rattle.hm_refs.proofs.Bools.{and_left, and_right, eq_of}
-
-and_true : (b : Bool) → b && true ≡ b
-and_true true = refl
-and_true false = refl
-
-and_false : (b : Bool) → b && false ≡ false
-and_false true = refl
-and_false false = refl
 
 -- ---- the listed bytes
 
@@ -47,7 +40,7 @@ pub plain_passes : (test : ℕ → Bool) (c : ℕ) → all_pass test plain_bytes
 unfolding is_plain_byte
 plain_passes test c h e = let p = passing (λ d. d == c) test plain_bytes h e in subst (λ d. test d ≡ true) (eq_of p.0 c p.1) p.2
 
-all_ascii : all_pass (λ c. nat_lt c 128) plain_bytes ≡ true
+pub all_ascii : all_pass (λ c. nat_lt c 128) plain_bytes ≡ true
 all_ascii = refl
 
 -- no other character is plain
@@ -84,14 +77,6 @@ other_eq c d h = by_test (d == c) refl
     by_test true e = absurd (h (sym (eq_of d c e)))
     by_test false e = refl
 
-or_true : (b : Bool) → b || true ≡ true
-or_true true = refl
-or_true false = refl
-
-or_false : (b : Bool) → b || false ≡ b
-or_false true = refl
-or_false false = refl
-
 pub listed_more : (i byte : ℕ) (flags : List Bool) → i < length plain_bytes → byte ≡ get_or plain_bytes i 0 → AreListed i flags → AreListed (i + 1) (set flags byte true)
 listed_more i byte flags l e a = record {
   long = length-set flags byte true ∙ a.long;
@@ -99,8 +84,8 @@ listed_more i byte flags l e a = record {
 }
   where
     by_eq : (c : ℕ) → c < 128 → (c ≡ byte) ⊎ (c ≡ byte → ⊥) → get_or (set flags byte true) c false ≡ some_passes (λ d. d == c) (take (i + 1) plain_bytes)
-    by_eq c k (inl j) = rw (j, get_or-set_same flags byte true false (omega (arith, a.long)), in_more byte i l, sym e, same_eq byte) (sym (or_true (some_passes (λ d. d == byte) (take i plain_bytes))))
-    by_eq c k (inr d) = rw (get_or-set_other flags byte c true false d, a.each c k, in_more c i l, sym e, other_eq c byte d) (sym (or_false (some_passes (λ d. d == c) (take i plain_bytes))))
+    by_eq c k (inl j) = rw (j, get_or-set_same flags byte true false (omega (arith, a.long)), in_more byte i l, sym e, same_eq byte) (sym (or-true (some_passes (λ d. d == byte) (take i plain_bytes))))
+    by_eq c k (inr d) = rw (get_or-set_other flags byte c true false d, a.each c k, in_more c i l, sym e, other_eq c byte d) (sym (or-false (some_passes (λ d. d == c) (take i plain_bytes))))
 
 pub listed_none : AreListed 0 (replicate 128 false)
 listed_none = record { long = refl; each = λ c l. get_or-replicate 128 c false false l }
@@ -109,7 +94,7 @@ pub listed_all : (i : ℕ) (flags : List Bool) → length plain_bytes ≤ i → 
 unfolding is_plain_byte
 listed_all i flags l a = record {
   all = a.long;
-  each = λ c k. a.each c k ∙ ap (some_passes (λ d. d == c)) (take_all i plain_bytes l) ∙ sym (and_true (some_passes (λ d. d == c) plain_bytes));
+  each = λ c k. a.each c k ∙ ap (some_passes (λ d. d == c)) (take_all i plain_bytes l) ∙ sym (and-true (some_passes (λ d. d == c) plain_bytes));
 }
 
 -- ---- one name more
@@ -123,18 +108,18 @@ name_more c ns i x l e =
     by_tests : (a b d : Bool) → a && (b && (d && true)) ≡ a && b && d
     by_tests false b d = refl
     by_tests true false d = refl
-    by_tests true true d = and_true d
+    by_tests true true d = and-true d
 
 -- a name that takes nothing from these characters
 pub flag_stays : (ns : List ReferenceName) (i : ℕ) (x : ReferenceName) (flags : List Bool) → i < length ns → x ≡ get_or ns i x → (is_long (entry_of x) ≡ true) ⊎ (128 ≤ x.points.first) → IsFlagged (take i (entries_of ns)) flags → IsFlagged (take (i + 1) (entries_of ns)) flags
 unfolding allows
 flag_stays ns i x flags l e a f = record {
   all = f.all;
-  each = λ c k. f.each c k ∙ sym (name_more c ns i x l e ∙ rw (allowed c k a) (and_true (is_plain (take i (entries_of ns)) c)));
+  each = λ c k. f.each c k ∙ sym (name_more c ns i x l e ∙ rw (allowed c k a) (and-true (is_plain (take i (entries_of ns)) c)));
 }
   where
     allowed : (c : ℕ) → c < 128 → (is_long (entry_of x) ≡ true) ⊎ (128 ≤ x.points.first) → allows c (entry_of x) ≡ true
-    allowed c k (inl h) = rw h (or_true (not (x.points.first == c)))
+    allowed c k (inl h) = rw h (or-true (not (x.points.first == c)))
     allowed c k (inr h) = rw (other_eq c x.points.first (λ i. omega arith)) refl
 
 -- a name that leaves its first code point no longer plain
@@ -146,5 +131,5 @@ flag_falls ns i x flags l e h s f = record {
 }
   where
     by_eq : (c : ℕ) → c < 128 → (c ≡ x.points.first) ⊎ (c ≡ x.points.first → ⊥) → get_or (set flags x.points.first false) c false ≡ is_plain (take i (entries_of ns)) c && (not (x.points.first == c) || is_long (entry_of x))
-    by_eq c k (inl j) = rw (j, get_or-set_same flags x.points.first false false (omega (arith, f.all)), same_eq x.points.first, h) (sym (and_false (is_plain (take i (entries_of ns)) x.points.first)))
-    by_eq c k (inr d) = rw (get_or-set_other flags x.points.first c false false d, f.each c k, other_eq c x.points.first d) (sym (and_true (is_plain (take i (entries_of ns)) c)))
+    by_eq c k (inl j) = rw (j, get_or-set_same flags x.points.first false false (omega (arith, f.all)), same_eq x.points.first, h) (sym (and-false (is_plain (take i (entries_of ns)) x.points.first)))
+    by_eq c k (inr d) = rw (get_or-set_other flags x.points.first c false false d, f.each c k, other_eq c x.points.first d) (sym (and-true (is_plain (take i (entries_of ns)) c)))

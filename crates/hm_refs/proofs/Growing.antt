@@ -1,6 +1,6 @@
 -- A trie that grows by one byte of each name after another.
 use Rattle.std.proofs.Common.{◌≡◌, ℕ, zero, suc, ◌+◌, ◌<◌, ◌≤◌, ◌⊎◌, inl, inr, Bool, true, false, cond, ◌&&◌, ◌==◌, nat_eq, List, [], ◌∷◌, ◌++◌, length, get_or, set, take, drop, replicate, Some, None, refl, sym, ap, ◌∙◌, subst, arith, is_some, Ordering, Less, Equal, Greater}
-use Rattle.std.proofs.lemmas.Bool.{cases_eq, cases_lt}
+use Rattle.std.proofs.lemmas.Bool.{cases_eq, cases_lt, and_from}
 use Rattle.std.proofs.lemmas.List.{map-set, set-get_or, get_or-map, get_or_read, get_or-set_same, get_or-set_other, get_or-replicate, take_more, take_all, take-append-le, map_more, take-map, length-map, length-set, length_push, length-take-le, length-drop, length-replicate}
 use Rattle.std.proofs.lemmas.Map.Keys.{Less-from_sorted}
 use Rattle.std.specs.Cmp.{ranks}
@@ -35,10 +35,6 @@ front_of_name (e ∷ t) (suc k) q l h = by_test (begins q e.name) (front_of_name
     by_test true e = refl
     by_test false e = e
 
-both : (a b : Bool) → a ≡ true → b ≡ true → a && b ≡ true
-both true b e f = f
-both false b e f = absurd (cc)
-
 -- what stands between two lists that begin alike begins so too
 convex : (q a b c : List ℕ) → slice_cmp nat_cmp a b ≡ Less → slice_cmp nat_cmp b c ≡ Less → begins q a ≡ true → begins q c ≡ true → begins q b ≡ true
 convex [] a b c h k f g = refl
@@ -60,7 +56,7 @@ convex (x ∷ q) (y ∷ a) (z ∷ b) (w ∷ c) h k f g =
     by_order Less Less r s h k i j more = absurd (omega arith)
     by_order Less Equal r s h k i j more = absurd (omega arith)
     by_order Equal Less r s h k i j more = absurd (omega arith)
-    by_order Equal Equal r s h k i j more = both (x == z) (begins q b) (rw (i ∙ r) (same_eq z)) (more h k)
+    by_order Equal Equal r s h k i j more = and_from (x == z) (begins q b) (rw (i ∙ r) (same_eq z)) (more h k)
 
 named_at : (t : List Entry) (k : ℕ) → k < length t → get_or (names_in t) k [] ≡ (entry_at t k).name
 named_at t k l = get_or-map (λ (e : Entry). e.name) t k no_entry [] l

@@ -1,6 +1,6 @@
 -- Tests, which the checker computes, that constants are a table with its trie.
 use Rattle.std.proofs.Common.{◌≡◌, ℕ, zero, suc, ◌+◌, ◌/◌, ◌%◌, ◌<◌, ◌≤◌, ◌⊎◌, inl, inr, Bool, true, false, cond, not, ◌&&◌, ◌||◌, ◌==◌, nat_lt, List, [], ◌∷◌, filter, map, length, get_or, take, drop, Option, Some, None, Ok, refl, sym, ap, ◌∙◌, subst, arith, bytes_eq, is_some, count_by}
-use Rattle.std.proofs.lemmas.Bool.{cases_lt}
+use Rattle.std.proofs.lemmas.Bool.{cases_lt, ltb-true}
 use Rattle.std.proofs.lemmas.Nat.{mod_below}
 use Rattle.std.proofs.lemmas.Slice.Eq.{bytes_eq-Decides}
 use Rattle.std.specs.List.{list_all}
@@ -32,9 +32,6 @@ fronts_by bs nodes = map (front_by bs) nodes
 abbrev pub is_named : ℕ → ℕ → TrieNode → Bool
 is_named n k x = (nat_lt x.name n && nat_lt (x.name / 48) k) && not (is_some x.ends)
 
-lt_of : (m n : ℕ) → nat_lt m n ≡ true → m < n
-lt_of m n h = grind arith
-
 not_less : (m n : ℕ) → m ≤ n → nat_lt n m ≡ false
 not_less m n l = grind arith
 
@@ -43,7 +40,7 @@ unfolding front_in
 fronts_same n k t [] h = refl
 fronts_same n k t (x ∷ nodes) h =
     let a = and_left (nat_lt x.name n && nat_lt (x.name / 48) k) _ (and_left (is_named n k x) _ h) in
-    let l = lt_of (x.name / 48) k (and_right (nat_lt x.name n) _ a) in
+    let l = ltb-true (x.name / 48) k (and_right (nat_lt x.name n) _ a) in
     rw (picked k 48 t x.name no_entry l, fronts_same n k t nodes (and_right (is_named n k x) _ h)) refl
 
 named_at : (n k : ℕ) (nodes : List TrieNode) (i : ℕ) (x : TrieNode) → list_all (is_named n k) nodes ≡ true → i < length nodes → get_or nodes i x ≡ x → (x.name < n) × (x.ends ≡ None)
@@ -57,7 +54,7 @@ named_at n k (y ∷ nodes) zero x h l e = subst (λ (z : TrieNode). (z.name < n)
     here : is_named n k y ≡ true → (y.name < n) × (y.ends ≡ None)
     here i =
         let a = and_left (nat_lt y.name n && nat_lt (y.name / 48) k) _ i in
-        (lt_of y.name n (and_left (nat_lt y.name n) _ a), none_of y.ends (and_right (nat_lt y.name n && nat_lt (y.name / 48) k) _ i))
+        (ltb-true y.name n (and_left (nat_lt y.name n) _ a), none_of y.ends (and_right (nat_lt y.name n && nat_lt (y.name / 48) k) _ i))
 named_at n k (y ∷ nodes) (suc i) x h l e = named_at n k nodes i x (and_right (is_named n k y) _ h) (omega arith) e
 
 -- ---- the node of each name, with m prefixes in k blocks of 104
@@ -84,7 +81,7 @@ placed_at m k fs (e ∷ t) (p ∷ ps) h zero l =
     let a = and_left (is_placed m k (blocks k 104 fs) e p) _ h in
     let b = and_left (nat_lt p m && nat_lt (p / 104) k) _ a in
     let s = (bytes_eq-Decides (pick 104 (blocks k 104 fs) p []) e.name).0 (and_right (nat_lt p m && nat_lt (p / 104) k) _ a) in
-    (lt_of p m (and_left (nat_lt p m) _ b), sym (picked k 104 fs p [] (lt_of (p / 104) k (and_right (nat_lt p m) _ b))) ∙ s)
+    (ltb-true p m (and_left (nat_lt p m) _ b), sym (picked k 104 fs p [] (ltb-true (p / 104) k (and_right (nat_lt p m) _ b))) ∙ s)
 placed_at m k fs (e ∷ t) (p ∷ ps) h (suc i) l = placed_at m k fs t ps (and_right (is_placed m k (blocks k 104 fs) e p) _ h) i (omega arith)
 
 are_places : (m k : ℕ) (t : List Entry) (nodes : List TrieNode) (places : List ℕ) → length nodes ≡ m → AreApart (fronts_of t nodes) → are_placed m k (blocks k 104 (fronts_of t nodes)) t places ≡ true → ArePlaces t nodes places

@@ -5,6 +5,7 @@ use Rattle.std.specs.Int.{is_in_range}
 use Rattle.std.proofs.lemmas.Bool.{and_parts, cases_lt}
 use Rattle.std.proofs.lemmas.Bool.Decides.{Decides-eqb}
 use Rattle.std.proofs.lemmas.List.{get_or-drop, get_or-take, get_or_append_left}
+use Rattle.hm_base.proofs.Bytes.{front_passes}
 use Rattle.hm_base.specs.Bytes.{all_pass, front, rest_after, head_is, is_null, is_letter, is_alnum, is_digit, is_digit_of}
 use Rattle.hm_refs.specs.Laws.{IsLongest}
 use Rattle.hm_refs.specs.Names.{Entry, longest, is_good, is_tail, is_closed}
@@ -16,7 +17,7 @@ use Rattle.hm_refs.proofs.Found.{longest_is_longest, good_of}
 use Rattle.hm_refs.specs.Reads.{IsEndOf, IsReadReference}
 use Rattle.hm_refs.specs.declared.scan.Reference.{Reference}
 use Rattle.hm_refs.proofs.Digits.{all_pass_at, digit_is}
-use Rattle.hm_refs.proofs.RunEnds.{front_passes, rest_cons}
+use Rattle.hm_refs.proofs.RunEnds.{rest_cons}
 
 alnum_is : (c : ℕ) → is_ascii_alphanumeric c ≡ is_alnum c
 unfolding is_alnum is_letter

@@ -1,7 +1,7 @@
 -- How a run goes on by one byte, and where it ends.
-use Rattle.std.proofs.Common.{◌≡◌, ℕ, ◌+◌, ◌-◌, ◌<◌, ◌≤◌, Bool, true, false, cond, List, [], ◌∷◌, ◌++◌, length, take, drop, get_or, slice_range, refl, ap, sym, ◌∙◌, arith, drop-cons, add-one, append_assoc, length-drop}
+use Rattle.std.proofs.Common.{◌≡◌, ℕ, ◌+◌, ◌-◌, ◌<◌, ◌≤◌, Bool, true, List, [], ◌∷◌, ◌++◌, length, take, drop, get_or, slice_range, refl, ap, sym, ◌∙◌, arith, drop-cons, add-one, append_assoc, length-drop}
 use Rattle.std.proofs.lemmas.List.{take_more, get_or-drop}
-use Rattle.hm_base.specs.Bytes.{all_pass, front, rest_after}
+use Rattle.hm_base.specs.Bytes.{front, rest_after}
 
 pub range_more : (s : List ℕ) (from at : ℕ) → from ≤ at → at < length s → slice_range s from (at + 1) ≡ slice_range s from at ++ get_or s at 0 ∷ []
 range_more s from at low high =
@@ -28,12 +28,6 @@ run_more p s from at r h e =
       front = r.front ∙ ap (λ x. slice_range s from at ++ front p x) cut ∙ rw (e, longer) (sym (append_assoc (slice_range s from at) (get_or s at 0 ∷ []) (front p (drop (at + 1) s))));
       after = r.after ∙ ap (rest_after p) cut ∙ rw e refl;
     }
-
--- the bytes of a prefix pass
-pub front_passes : (p : ℕ → Bool) (s : List ℕ) → all_pass p (front p s) ≡ true
-front_passes p [] = refl
-front_passes p (c ∷ s) = elim (p c) as (λ b. p c ≡ b → all_pass p (cond b (c ∷ front p s) []) ≡ true)
-    [ true ↦ λ e. rw (e, front_passes p s) refl | false ↦ λ e. refl ] refl
 
 -- the first byte of a rest
 pub rest_cons : (s : List ℕ) (n : ℕ) → n < length s → drop n s ≡ get_or s n 0 ∷ drop (n + 1) s

@@ -4,7 +4,7 @@ use Rattle.std.specs.Char.{digit_value}
 use Rattle.std.specs.Fmt.{decimal, digits, digits_onto, digit_glyph}
 use Rattle.std.specs.List.{list_all}
 use Rattle.std.specs.Str.Parse.{AllDigits}
-use Rattle.std.proofs.lemmas.Bool.{cases_lt, and_parts}
+use Rattle.std.proofs.lemmas.Bool.{cases_lt, and_parts, ltb-true}
 use Rattle.std.proofs.lemmas.Fmt.{digits_is_IsNumeral, length-decimal-le}
 use Rattle.std.proofs.lemmas.Int.Digits.{digits_value-lt}
 use Rattle.hm_base.specs.Bytes.{all_pass, is_digit_of, is_null}
@@ -131,9 +131,6 @@ itself_high c h k = by_up (look_up c replaced) refl
         let t = le_of c 255 (and_left (nat_le c 255) (nat_le c d) (and_right (point_of c == d) (nat_le c 255 && nat_le c d) (up_passes goes_back c d replaced all_go_back e))) in
         absurd (omega arith)
 
-lt_of : (m n : ℕ) → nat_lt m n ≡ true → m < n
-lt_of m n h = grind arith
-
 low_replacements : list_all (λ (p : ℕ × ℕ). nat_lt p.1 1000000) replaced ≡ true
 low_replacements = refl
 
@@ -148,7 +145,7 @@ best_itself c h p = by_back (look_back c replaced) refl
     by_back None e = rw (other, p, same_eq c) refl
     by_back (Some n) e =
         let t = back_passes (λ (q : ℕ × ℕ). nat_lt q.1 1000000) c n replaced low_replacements e in
-        let l = lt_of c 1000000 t in
+        let l = ltb-true c 1000000 t in
         absurd (omega arith)
 
 digits_write : (base n : ℕ) → 2 ≤ base → base ≤ 16 → n < base ^ 64 → value_of base (digits base false n) ≡ n

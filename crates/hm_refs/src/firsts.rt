@@ -1,7 +1,6 @@
 //! Names by their first code points.
 ghost use Rattle.std.specs.Prelude.{◌≡◌, ℕ, ◌<◌, ◌≤◌, List, [], ◌∷◌, All, length, IfOk, count_by};
 ghost use Rattle.hm_refs.specs.declared.limits.TheConstants.{NAMES_LIMIT};
-ghost use Rattle.hm_refs.specs.Names.{is_closed};
 ghost use Rattle.hm_refs.specs.Json.{if_crowded, least_crowded, lesser};
 ghost use Rattle.hm_refs.specs.Nodes.{entries_of};
 ghost use Rattle.hm_refs.specs.Firsts.{IsIndex, are_many, is_open_at};
@@ -9,6 +8,7 @@ ghost use Rattle.hm_refs.specs.Firsts.{IsIndex, are_many, is_open_at};
 use crate::ids::NameId;
 use crate::limits::{ALIKE_LIMIT, OPEN_LIMIT};
 use crate::nodes::ReferenceName;
+use crate::scan::is_closed;
 use hm_base::OutOfMemory;
 use std::alloc::Global;
 use std::collections::BTreeMap;
@@ -93,14 +93,4 @@ fn open_names(names: &[ReferenceName], ids: &[NameId]) -> usize
         }
     }
     open
-}
-
-/// Whether a name ends in `;`.
-pub(crate) fn is_closed(text: &[u8]) -> bool
-    ensures { result ≡ is_closed text.now }
-{
-    match text {
-        [.., last] => *last == b';',
-        [] => false,
-    }
 }

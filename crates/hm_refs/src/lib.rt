@@ -24,5 +24,5 @@ pub use ids::{NameId, Node};
 pub use limits::{ALIKE_LIMIT, LENGTH_LIMIT, NAMES_LIMIT, OPEN_LIMIT};
 pub use numbers::{best_number, number_value};
 pub use ready::{ReadyIndex, ReadyNames, ReadyNodes};
-pub use scan::{Reference, read_reference};
+pub use scan::{Reference, blocks, is_closed, read_reference};
 pub use table::Table;

@@ -11,23 +11,13 @@ ghost use Rattle.hm_refs.specs.Reads.{IsEndOf, IsReadReference};
 use crate::Table;
 use crate::laws::every_table;
 use crate::numbers::number_value;
-use hm_base::Points;
+use hm_base::{Points, is_digit};
 
 /// The code points of a reference, and how many bytes it has.
 #[derive(Clone, Copy)]
 pub struct Reference {
     pub points: Points,
     pub len: usize,
-}
-
-/// Whether the byte is a digit of base 10 or 16.
-#[tactic(auto, unfolding(hm_base::specs::Bytes::is_digit_of))]
-fn is_digit(byte: u8, base: u32) -> bool
-    requires low { 2 ≤ base }
-    requires high { base ≤ 16 }
-    ensures { result ≡ is_digit_of base byte }
-{
-    char::from(byte).is_digit(base)
 }
 
 /// The value of a digit.
@@ -131,7 +121,7 @@ fn is_blocked(in_value: bool, name: &[u8], text: &[u8]) -> bool
 }
 
 /// Whether a name ends in `;`.
-fn is_closed(name: &[u8]) -> bool
+pub fn is_closed(name: &[u8]) -> bool
     ensures { result ≡ names.is_closed name.now }
 {
     match name {
@@ -140,8 +130,8 @@ fn is_closed(name: &[u8]) -> bool
     }
 }
 
-/// Whether the byte is `=`, a letter or a digit.
-fn blocks(byte: u8) -> bool
+/// Whether the byte is `=`, a letter or a digit: in an attribute value a name without `;` before it is no reference.
+pub fn blocks(byte: u8) -> bool
     ensures { result ≡ refs.blocks byte }
 {
     byte == b'=' || byte.is_ascii_alphanumeric()

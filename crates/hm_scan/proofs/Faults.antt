@@ -1,5 +1,6 @@
 -- Why a tag is refused.
 use Rattle.std.proofs.Common.{◌≡◌, ℕ, ◌<◌, ◌≤◌, Bool, true, false, cond, not, ◌||◌, nat_lt, List, length, map, drop, slice_range, Option, Some, None, string_bytes, refl, ap, ap₂, sym, ◌∙◌, arith}
+use Rattle.std.proofs.Math.Bool.{or-true}
 use Rattle.hm_base.specs.Bytes.{rest_after, lower}
 use Rattle.hm_base.specs.Forms.{is_tag_name}
 use Rattle.hm_base.specs.Walks.{Attribute}
@@ -21,13 +22,9 @@ pub bad_tag_name : (name : List ℕ) (written : List Attribute) → is_tag_name 
 unfolding tag_fault
 bad_tag_name name written h = rw h refl
 
-or_true : (a : Bool) → a || true ≡ true
-or_true true = refl
-or_true false = refl
-
 pub bad_attribute : (name : List ℕ) (written : List Attribute) → has_bad_name written ≡ true → tag_fault name written ≡ Some faults.BadName
 unfolding tag_fault
-bad_attribute name written h = rw (h, or_true (not (is_tag_name name))) refl
+bad_attribute name written h = rw (h, or-true (not (is_tag_name name))) refl
 
 pub too_many : (name : List ℕ) (written : List Attribute) → is_tag_name name ≡ true → has_bad_name written ≡ false → attribute_limit < length written → tag_fault name written ≡ Some faults.TooManyAttributes
 unfolding tag_fault

@@ -1,5 +1,7 @@
 -- Attributes that are kept, one after another.
 use Rattle.std.proofs.Common.{◌≡◌, ℕ, ◌+◌, ◌≤◌, Bool, true, false, cond, not, ◌&&◌, ◌||◌, nat_le, List, [], ◌∷◌, ◌++◌, map, length, bytes_eq, refl, ap, sym, subst, ◌∙◌, arith, length-append, append-nil}
+use Rattle.std.proofs.lemmas.Bool.{or_parts}
+use Rattle.std.proofs.Math.Bool.{or-false}
 use Rattle.std.proofs.lemmas.Slice.Eq.{bytes_eq-Decides}
 use Rattle.hm_base.specs.Walks.{Attribute, has_name}
 use Rattle.hm_refs.specs.Names.{Entry}
@@ -61,16 +63,12 @@ map_push : {A B : Type 0} (f : A → B) (xs : List A) (x : A) → map f (xs ++ x
 map_push f [] x = refl
 map_push f (y ∷ xs) x = ap (λ r. f y ∷ r) (map_push f xs x)
 
-or_false : (a : Bool) → a || false ≡ a
-or_false true = refl
-or_false false = refl
-
 or_assoc : (a b c : Bool) → a || (b || c) ≡ (a || b) || c
 or_assoc true b c = refl
 or_assoc false b c = refl
 
 bad_push : (attributes : List Attribute) (a : Attribute) → has_bad_name (attributes ++ a ∷ []) ≡ has_bad_name attributes || is_bad_name a.name
-bad_push [] a = or_false (is_bad_name a.name)
+bad_push [] a = or-false (is_bad_name a.name)
 bad_push (b ∷ attributes) a = ap (λ r. is_bad_name b.name || r) (bad_push attributes a) ∙ or_assoc (is_bad_name b.name) (has_bad_name attributes) (is_bad_name a.name)
 
 added_few : (attributes : List Attribute) (a : Attribute) → length (added attributes a) ≤ length attributes + 1
@@ -79,10 +77,6 @@ added_few attributes a = by_test (has_name a.name attributes)
     by_test : (b : Bool) → length (cond b attributes (attributes ++ a ∷ [])) ≤ length attributes + 1
     by_test true = omega arith
     by_test false = simp length-append (omega arith)
-
-or_parts : (a b : Bool) → a || b ≡ false → (a ≡ false) × (b ≡ false)
-or_parts true b h = absurd (cc)
-or_parts false b h = (refl, h)
 
 pub record Takes (t : List Entry) (a : Attribute) (old : Collected) (before : List Attribute) (new : Collected) (after : List Attribute) : Type 0 where
   pub keeps : new.keeps ≡ old.keeps

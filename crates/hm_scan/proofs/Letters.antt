@@ -4,7 +4,8 @@ use Rattle.std.proofs.lemmas.Bool.{and_parts}
 use Rattle.hm_base.specs.Bytes.{all_pass, rest_after, front}
 use Rattle.hm_base.specs.Forms.{is_small, is_tag_byte}
 use Rattle.hm_refs.specs.Reads.{IsEndOf}
-use Rattle.hm_refs.proofs.RunEnds.{Runs, front_passes}
+use Rattle.hm_base.proofs.Bytes.{front_passes}
+use Rattle.hm_refs.proofs.RunEnds.{Runs}
 use Rattle.hm_scan.proofs.PlainNames.{small_stays}
 use Rattle.hm_scan.proofs.TagParts.{split_at}
 

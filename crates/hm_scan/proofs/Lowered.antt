@@ -1,5 +1,6 @@
 -- Words in any case, by the lowered text: what a test of a prefix sees of it.
 use Rattle.std.proofs.Common.{◌≡◌, ◌≢◌, ℕ, ◌+◌, ◌≤◌, ◌<◌, Bool, true, false, cond, ◌==◌, ◌⊎◌, inl, inr, List, [], ◌∷◌, ◌++◌, map, length, None, option_and_then, refl, sym, ◌∙◌, arith, lit<}
+use Rattle.std.proofs.lemmas.Bool.{ne_eqb}
 use Rattle.std.proofs.lemmas.Bool.Decides.{nat_tests, Decides-eqb}
 use Rattle.hm_base.specs.Bytes.{strip, strip_word, head_is, lower, is_space}
 use Rattle.hm_base.specs.RawText.{is_name_end, is_found, is_found_whole}
@@ -9,19 +10,16 @@ pub lower_cases : (c : ℕ) → ((65 ≤ c) × (c ≤ 90) × (lower c ≡ c + 32
 unfolding lower
 lower_cases c = grind (arith, nat_tests)
 
-eqb_apart : (a b : ℕ) → a ≢ b → (a == b) ≡ false
-eqb_apart a b h = grind (arith, nat_tests)
-
 -- a byte below the letters is a byte exactly where it is the lowered byte
 pub eqb_lower : (a c : ℕ) → a < 65 → (a == lower c) ≡ (a == c)
 eqb_lower a c h = elim (lower_cases c) [
-  | inl q ↦ rw q.2 (eqb_apart a (c + 32) (λ e. omega arith) ∙ sym (eqb_apart a c (λ e. omega arith)))
+  | inl q ↦ rw q.2 (ne_eqb a (c + 32) (λ e. omega arith) ∙ sym (ne_eqb a c (λ e. omega arith)))
   | inr q ↦ rw q.1 refl
 ]
 
 pub eqb_lower' : (a c : ℕ) → a < 65 → (lower c == a) ≡ (c == a)
 eqb_lower' a c h = elim (lower_cases c) [
-  | inl q ↦ rw q.2 (eqb_apart (c + 32) a (λ e. omega arith) ∙ sym (eqb_apart c a (λ e. omega arith)))
+  | inl q ↦ rw q.2 (ne_eqb (c + 32) a (λ e. omega arith) ∙ sym (ne_eqb c a (λ e. omega arith)))
   | inr q ↦ rw q.1 refl
 ]
 

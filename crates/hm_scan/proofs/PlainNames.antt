@@ -1,7 +1,7 @@
 -- Names of tags that are read as they are written.
 use Rattle.std.proofs.Common.{◌≡◌, ℕ, zero, suc, ◌+◌, ◌<◌, Bool, true, false, cond, ◌&&◌, ◌||◌, ◌==◌, List, [], ◌∷◌, length, map, drop, get_or, slice_index, slice_range, refl, ap, ap₂, sym, subst, ◌∙◌, arith}
 use Rattle.std.specs.Char.{is_ascii_digit}
-use Rattle.std.proofs.lemmas.Bool.{or_from}
+use Rattle.std.proofs.lemmas.Bool.{or_from, and_parts}
 use Rattle.std.proofs.lemmas.Bool.Decides.{Decides-eqb}
 use Rattle.hm_base.specs.Bytes.{all_pass, rest_after, front, head_is, is_digit, is_space, lower, some_passes}
 use Rattle.hm_base.specs.Forms.{is_small, is_tag_byte, is_tag_name}
@@ -96,10 +96,6 @@ no_capital c h = for_each_kind is_capital false small_no_capital (λ d k. ascii_
 pub small_stays : (c : ℕ) → is_small c ≡ true → is_tag_byte c ≡ true
 unfolding is_tag_byte
 small_stays c h = rw h refl
-
-and_parts : (a b : Bool) → a && b ≡ true → (a ≡ true) × (b ≡ true)
-and_parts true b h = (refl, h)
-and_parts false b h = absurd (cc)
 
 lower_plain : (n : List ℕ) → all_pass is_tag_byte n ≡ true → map lower n ≡ n
 lower_plain [] h = refl

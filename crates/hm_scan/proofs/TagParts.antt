@@ -1,5 +1,6 @@
 -- From the places of a tag's parts to its cuts.
 use Rattle.std.proofs.Common.{◌≡◌, ℕ, zero, suc, ◌+◌, ◌-◌, ◌<◌, ◌≤◌, Bool, true, false, ◌&&◌, ◌||◌, ◌==◌, nat_lt, List, [], ◌∷◌, ◌++◌, length, drop, get_or, slice_range, Option, Some, None, inl, inr, refl, ap, sym, subst, ◌∙◌, arith, drop_of_length-le, length-drop}
+use Rattle.std.proofs.Math.Bool.{and-false}
 use Rattle.std.specs.Str.{IsUtf8, IsCharBoundary}
 use Rattle.std.proofs.lemmas.Str.{IsCharBoundary-after_ascii}
 use Rattle.std.proofs.lemmas.List.{drop-drop, take-append-drop}
@@ -14,7 +15,8 @@ use Rattle.hm_scan.specs.Parts.{written_in, IsTagEnd, IsPair}
 use Rattle.hm_scan.specs.declared.attribute.WrittenAttribute.{WrittenAttribute}
 use Rattle.hm_scan.proofs.Cases.{differs}
 use Rattle.hm_scan.proofs.Boundaries.{gap_ends}
-use Rattle.hm_refs.proofs.RunEnds.{front_passes, range_more, rest_cons}
+use Rattle.hm_base.proofs.Bytes.{front_passes}
+use Rattle.hm_refs.proofs.RunEnds.{range_more, rest_cons}
 
 no_slash : (o : Option CutTag) → with_slash false o ≡ o
 no_slash None = refl
@@ -40,15 +42,11 @@ gap_one c r h = by_test (c == 47) refl
     by_test true e = rw (gap_no_end c h, e) refl
     by_test false e = rw (gap_no_end c h, e, gap_space c h e) (sym (no_slash (cut_tag r)))
 
-never : (b : Bool) → b && false ≡ false
-never true = refl
-never false = refl
-
 gap_many : (g : List ℕ) (c : ℕ) (r : List ℕ) → all_pass is_gap_byte g ≡ true → is_gap_byte c ≡ true → cut_tag (g ++ c ∷ r) ≡ cut_tag (c ∷ r)
 gap_many [] c r all h = refl
 gap_many (d ∷ g) c r all h =
     let both = and_parts (is_gap_byte d) (all_pass is_gap_byte g) all in
-    gap_one d (g ++ c ∷ r) both.0 ∙ rw (no_end g both.1) (rw (never (d == 47)) (no_slash (cut_tag (g ++ c ∷ r)))) ∙ gap_many g c r both.1 h
+    gap_one d (g ++ c ∷ r) both.0 ∙ rw (no_end g both.1) (rw (and-false (d == 47)) (no_slash (cut_tag (g ++ c ∷ r)))) ∙ gap_many g c r both.1 h
   where
     no_end : (g : List ℕ) → all_pass is_gap_byte g ≡ true → head_is is_tag_end (g ++ c ∷ r) ≡ false
     no_end [] all = gap_no_end c h
@@ -126,7 +124,7 @@ no_gap c h = parts (is_space c) (c == 47) h
 
 no_end_byte : (c : ℕ) → (c ≡ 62 → ⊥) → is_tag_end c ≡ false
 unfolding is_tag_end
-no_end_byte c never = elim (c == 62) as (λ b. (c == 62) ≡ b → b ≡ false) [ true ↦ λ e. absurd (never ((Decides-eqb c 62).0 e)) | false ↦ λ e. refl ] refl
+no_end_byte c and-false = elim (c == 62) as (λ b. (c == 62) ≡ b → b ≡ false) [ true ↦ λ e. absurd (and-false ((Decides-eqb c 62).0 e)) | false ↦ λ e. refl ] refl
 
 -- an attribute at the start
 pair_cut : (c : ℕ) (r rest : List ℕ) (a : walks.Attribute) → is_gap_byte c ≡ false → is_tag_end c ≡ false → attribute_at c r ≡ record { attribute = a; rest = rest } → drop (length r - length rest) r ≡ rest
@@ -137,7 +135,7 @@ pair_cut c r rest a gap no_end is rest_after =
 
 -- no '/' stands before '>'
 unflagged : (b : Bool) (s : List ℕ) (c : ℕ) (r : List ℕ) (o : Option CutTag) → s ≡ c ∷ r → is_tag_end c ≡ false → with_slash (b && head_is is_tag_end s) o ≡ o
-unflagged b s c r o e h = rw (e, h, never b) (no_slash o)
+unflagged b s c r o e h = rw (e, h, and-false b) (no_slash o)
 
 pub pair_is : (s : List ℕ) (from at : ℕ) (a : WrittenAttribute) → IsUtf8 s → IsCharBoundary s from → IsEndOf is_gap_byte s from at → at < length s → (get_or s at 0 ≡ 62 → ⊥) → IsAttributeAt s at a → IsPair s from at a
 pair_is s from at a u b e h no_end is =

@@ -1,5 +1,6 @@
 -- Values as they are read, piece by piece.
 use Rattle.std.proofs.Common.{◌≡◌, ℕ, zero, suc, pred, ◌+◌, ◌-◌, ◌<◌, ◌≤◌, Bool, true, false, ◌==◌, List, [], ◌∷◌, ◌++◌, length, take, drop, get_or, slice_range, Some, None, encode_utf8_all, refl, ap, ap₂, sym, subst, ◌∙◌, arith, append_assoc, append-nil, length-drop, take_all, drop_of_length-le}
+use Rattle.std.proofs.lemmas.Bool.{false_from_ne_true}
 use Rattle.std.specs.Str.{IsUtf8, IsCharBoundary}
 use Rattle.std.proofs.lemmas.Str.{IsCharBoundary-after_ascii, IsCharBoundary-before_ascii, IsCharBoundary-start}
 use Rattle.std.proofs.lemmas.List.{drop-drop, get_or-drop}
@@ -56,10 +57,6 @@ range_join s a b c low high =
     take_split (b - a) (c - b) (c - a) (drop a s) (omega arith)
     ∙ ap (λ r. slice_range s a b ++ take (c - b) r) (drop-drop (b - a) a s ∙ ap (λ n. drop n s) there)
 
-not_true : (b : Bool) → (b ≡ true → ⊥) → b ≡ false
-not_true true h = absurd (h refl)
-not_true false h = refl
-
 -- where a search found the next '&'
 pub passed_amp : (t : List Entry) (s : List ℕ) (from at len : ℕ) → IsPassed t s from at → IsFirstByte (is_byte 38) (drop at s) (Some len) → IsPassed t s from (at + len)
 passed_amp t s from at len p (none, here) =
@@ -67,7 +64,7 @@ passed_amp t s from at len p (none, here) =
     let long : length (drop at s) ≡ length s - at = length-drop at s in
     let short : len < length (drop at s) = none.high in
     let read : read_value t (drop at s) ≡ take len (drop at s) ++ read_value t (drop len (drop at s)) =
-    other_bytes t (drop at s) len (omega arith) (λ k l. not_true (get_or (drop at s) k 0 == 38) (none.before k (omega arith) l)) in
+    other_bytes t (drop at s) len (omega arith) (λ k l. false_from_ne_true (get_or (drop at s) k 0 == 38) (none.before k (omega arith) l)) in
     let same : slice_range s at (at + len) ≡ take len (drop at s) = let n : at + len - at ≡ len = omega arith in ap (λ m. take m (drop at s)) n in
     record {
       forward = omega arith;
@@ -132,7 +129,7 @@ pub passed_all : (t : List Entry) (s : List ℕ) (from at : ℕ) → IsPassed t 
 passed_all t s from at p none =
     let rest = drop at s in
     let read : read_value t rest ≡ take (length rest) rest ++ read_value t (drop (length rest) rest) =
-    other_bytes t rest (length rest) (omega arith) (λ k l. not_true (get_or rest k 0 == 38) (none k (omega arith) l)) in
+    other_bytes t rest (length rest) (omega arith) (λ k l. false_from_ne_true (get_or rest k 0 == 38) (none k (omega arith) l)) in
     let whole : take (length rest) rest ++ read_value t (drop (length rest) rest) ≡ rest =
     ap₂ (λ x y. x ++ read_value t y) (take_all (length rest) rest (omega arith)) (drop_of_length-le rest (omega arith)) ∙ append-nil rest in
     p.read ∙ ap (λ r. slice_range s from at ++ r) (read ∙ whole) ∙ sym (split_at s from at p.forward)

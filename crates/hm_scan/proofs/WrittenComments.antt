@@ -1,5 +1,6 @@
 -- A written comment is read back.
 use Rattle.std.proofs.Common.{◌≡◌, ℕ, ◌≤◌, ◌<◌, Bool, true, false, cond, not, ◌&&◌, ◌||◌, ◌==◌, List, [], ◌∷◌, ◌++◌, length, Some, None, option_map, refl, ap, ◌∙◌, arith, codes}
+use Rattle.std.proofs.lemmas.Bool.{or_parts}
 use Rattle.std.specs.Option.{option_or}
 use Rattle.hm_base.specs.Bytes.{strip}
 use Rattle.hm_base.specs.Forms.{is_comment_text, has_byte, has_mark}
@@ -35,16 +36,11 @@ no_end_before (c ∷ d ∷ g ∷ []) rest some e f = either (45 == c) (45 == d) 
 no_end_before (c ∷ d ∷ g ∷ h ∷ t) rest some e f =
     rw (still_missing (codes "-->") (c ∷ d ∷ g ∷ h ∷ t) (codes "-->" ++ rest) (omega arith) e, still_missing (codes "--!>") (c ∷ d ∷ g ∷ h ∷ t) (codes "-->" ++ rest) (omega arith) f) refl
 
-either_false : (a b : Bool) → a || b ≡ false → (a ≡ false) × (b ≡ false)
-either_false false false e = (refl, refl)
-either_false false true e = cc
-either_false true b e = cc
-
 cut_written : (t rest : List ℕ) → has_mark (codes "-->") t ≡ false → has_mark (codes "--!>") t ≡ false → cut_where after_end (t ++ (codes "-->" ++ rest)) ≡ Some (record { before = t; after = rest })
 cut_written [] rest e f = refl
 cut_written (c ∷ t) rest e f =
-    let p = either_false (begins (codes "-->") (c ∷ t)) (has_mark (codes "-->") t) e in
-    let q = either_false (begins (codes "--!>") (c ∷ t)) (has_mark (codes "--!>") t) f in
+    let p = or_parts (begins (codes "-->") (c ∷ t)) (has_mark (codes "-->") t) e in
+    let q = or_parts (begins (codes "--!>") (c ∷ t)) (has_mark (codes "--!>") t) f in
     rw (no_end_before (c ∷ t) rest (omega arith) p.0 q.0, cut_written t rest p.1 q.1) refl
 
 -- nothing ends it at once

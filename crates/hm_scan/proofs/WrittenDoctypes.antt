@@ -1,5 +1,6 @@
 -- A written doctype is read back.
 use Rattle.std.proofs.Common.{◌≡◌, ◌⊎◌, inl, inr, ℕ, Bool, true, false, ◌&&◌, ◌||◌, ◌==◌, List, [], ◌∷◌, ◌++◌, map, length, Some, refl, sym, ap, ◌∙◌, codes, append_assoc, lit<}
+use Rattle.std.proofs.lemmas.Bool.{and_parts, or_parts}
 use Rattle.std.proofs.lemmas.List.{drop_at, length-map}
 use Rattle.std.proofs.lemmas.Bool.Decides.{Decides-eqb}
 use Rattle.hm_base.specs.Bytes.{cut_at, strip_word, lower, is_space, all_pass, head_is, is_null, rest_after}
@@ -22,23 +23,18 @@ word_front (c ∷ w) (x ∷ xs) s e =
     let same : (c == lower x) ≡ true = (Decides-eqb c (lower x)).1 first in
     rw (same, word_front w xs s more) refl
 
-both : (a b : Bool) → a && b ≡ true → (a ≡ true) × (b ≡ true)
-both true true e = (refl, refl)
-both true false e = cc
-both false b e = cc
-
 -- whitespace at the start
 space_front : (xs s : List ℕ) → is_blank xs ≡ true → head_is is_space s ≡ false → rest_after is_space (xs ++ s) ≡ s
 space_front [] [] all stop = refl
 space_front [] (c ∷ s) all stop = rw stop refl
 space_front (x ∷ xs) s all stop =
-    let parts = both (is_space x) (all_pass is_space xs) all in
+    let parts = and_parts (is_space x) (all_pass is_space xs) all in
     rw (parts.0, space_front xs s parts.1 stop) refl
 
 blank_all : (xs : List ℕ) → is_blank xs ≡ true → rest_after is_space xs ≡ []
 blank_all [] all = refl
 blank_all (x ∷ xs) all =
-    let parts = both (is_space x) (all_pass is_space xs) all in
+    let parts = and_parts (is_space x) (all_pass is_space xs) all in
     rw (parts.0, blank_all xs parts.1) refl
 
 -- a word of letters doesn't begin with whitespace
@@ -49,11 +45,6 @@ space_lower c = rw (eqb_lower' 9 c (lit< tt), eqb_lower' 10 c (lit< tt), eqb_low
 head_lower : (xs s : List ℕ) (c : ℕ) (w : List ℕ) → IsWord (c ∷ w) xs → is_space c ≡ false → head_is is_space (xs ++ s) ≡ false
 head_lower [] s c w e f = cc
 head_lower (x ∷ xs) s c w e f = let first : lower x ≡ c = cc in sym (space_lower x) ∙ ap is_space first ∙ f
-
-neither : (a b : Bool) → a || b ≡ false → (a ≡ false) × (b ≡ false)
-neither false false e = (refl, refl)
-neither false true e = cc
-neither true b e = cc
 
 -- what holds no `>`
 joined : (m : ℕ) (xs ys : List ℕ) → has_byte m xs ≡ false → has_byte m ys ≡ false → has_byte m (xs ++ ys) ≡ false
@@ -78,7 +69,7 @@ space_apart c e = either (c == 62) refl
 space_without : (xs : List ℕ) → is_blank xs ≡ true → has_byte 62 xs ≡ false
 space_without [] all = refl
 space_without (x ∷ xs) all =
-    let parts = both (is_space x) (all_pass is_space xs) all in
+    let parts = and_parts (is_space x) (all_pass is_space xs) all in
     rw (space_apart x parts.0, space_without xs parts.1) refl
 
 apart : (a b : ℕ) → (a == b) ≡ false → (b == a) ≡ false
@@ -92,7 +83,7 @@ apart a b e = either (b == a) refl
 cut_byte : (m : ℕ) (xs rest : List ℕ) → has_byte m xs ≡ false → cut_at (m ∷ []) (xs ++ m ∷ rest) ≡ Some (record { before = xs; after = rest })
 cut_byte m [] rest e = let same : (m == m) ≡ true = (Decides-eqb m m).1 refl in rw same refl
 cut_byte m (x ∷ xs) rest e =
-    let parts = neither (x == m) (has_byte m xs) e in
+    let parts = or_parts (x == m) (has_byte m xs) e in
     rw (apart x m parts.0, cut_byte m xs rest parts.1) refl
 
 -- a text that is read up to its `>`

@@ -1,14 +1,12 @@
 -- What a load has taken of a file, after the bytes that it began with.
 use Rattle.std.proofs.Common.{◌≡◌, ℕ, ◌+◌, ◌≤◌, ◌⊎◌, inl, inr, List, [], ◌++◌, length, take, drop, Some, None, refl, sym, ap, ◌∙◌, arith, append-nil, length-drop, take_at, take_all, drop_at}
+use Rattle.std.proofs.lemmas.Option.{same_Some}
 use Rattle.std.specs.declared.option.Option.{Option}
 use Rattle.std.specs.Io.{StartsWith}
 use Rattle.std.specs.Io.KnownBytes.{prepend_known, IsAtEnd}
 use Rattle.std.proofs.lemmas.List.{drop-append-le, length-take-le}
 use Rattle.std.proofs.Transfers.{starts_with_length}
 use Rattle.hm_store.specs.Files.{Takes}
-
-some_is : {A : Type 0} (a b : A) → Some a ≡ Some b → a ≡ b
-some_is a b e = cc
 
 -- what stands after the front, with what is left to read, is the file
 after_front : (file rest front bytes : List ℕ) → bytes ++ rest ≡ front ++ file → StartsWith bytes front → drop (length front) bytes ++ rest ≡ file
@@ -28,7 +26,7 @@ taken_after None rest front bytes most e h within end = tt
 taken_after (Some file) None front bytes most e h within end = absurd (cc)
 taken_after (Some file) (Some rest) front bytes most e h within end =
     let long = length-drop (length front) bytes in
-    let whole : bytes ++ rest ≡ front ++ file = some_is _ _ e in
+    let whole : bytes ++ rest ≡ front ++ file = same_Some _ _ e in
     let ends : (rest ≡ []) ⊎ (length (drop (length front) bytes) ≡ most) = elim end [ inl none ↦ inl none | inr full ↦ inr (omega arith) ] in
     takes file rest (drop (length front) bytes) most (after_front file rest front bytes whole h) (omega arith) ends
 

@@ -1,5 +1,6 @@
 -- Texts stay apart where an event is appended to a walk, or bytes to the text that stands last.
 use Rattle.std.proofs.Common.{◌≡◌, ℕ, Bool, true, false, not, ◌&&◌, List, [], ◌∷◌, ◌++◌, ◌∙◌, refl}
+use Rattle.std.proofs.Math.Bool.{and-false}
 use Rattle.std.proofs.lemmas.Bool.{and_parts, and_from}
 use Rattle.hm_base.specs.Bytes.{is_null}
 use Rattle.hm_base.specs.Walks.{Event, doctype, start, text, comment, end, begins_text}
@@ -74,17 +75,13 @@ are_texts_apart-extended (e ∷ x ∷ w) more all =
     (apart_alike e (extended (x ∷ w) more) (x ∷ w) (begins_extended x w more) ∙ parts.0)
     (are_texts_apart-extended (x ∷ w) more parts.1)
 
-off : (b : Bool) → b && false ≡ false
-off true = refl
-off false = refl
-
 -- an event that is no text
 pub are_texts_apart-other : (w : List Event) (e : Event) → are_texts_apart w ≡ true → is_text e ≡ false → are_texts_apart (w ++ e ∷ []) ≡ true
-are_texts_apart-other w (doctype legacy) all other = are_texts_apart-push w (doctype legacy) all refl (off (ends_in_text w))
-are_texts_apart-other w (start n foreign attributes) all other = are_texts_apart-push w (start n foreign attributes) all refl (off (ends_in_text w))
+are_texts_apart-other w (doctype legacy) all other = are_texts_apart-push w (doctype legacy) all refl (and-false (ends_in_text w))
+are_texts_apart-other w (start n foreign attributes) all other = are_texts_apart-push w (start n foreign attributes) all refl (and-false (ends_in_text w))
 are_texts_apart-other w (text s raw) all other = absurd (cc)
-are_texts_apart-other w (comment s) all other = are_texts_apart-push w (comment s) all refl (off (ends_in_text w))
-are_texts_apart-other w (end n foreign) all other = are_texts_apart-push w (end n foreign) all refl (off (ends_in_text w))
+are_texts_apart-other w (comment s) all other = are_texts_apart-push w (comment s) all refl (and-false (ends_in_text w))
+are_texts_apart-other w (end n foreign) all other = are_texts_apart-push w (end n foreign) all refl (and-false (ends_in_text w))
 
 -- a text that isn't empty, after what is no text
 pub are_texts_apart-text : (w : List Event) (c : ℕ) (s : List ℕ) (raw : Bool) → are_texts_apart w ≡ true → ends_in_text w ≡ false → are_texts_apart (w ++ text (c ∷ s) raw ∷ []) ≡ true

@@ -1,6 +1,6 @@
 -- Attributes of which one is left out, or has no value.
 use Rattle.std.proofs.Common.{◌≡◌, ℕ, zero, suc, ◌+◌, ◌-◌, ◌<◌, ◌≤◌, Bool, true, false, not, ◌&&◌, List, [], ◌∷◌, ◌++◌, length, map, take, drop, set, get_or, slice_range, All, bytes_eq, cond, sym, ap, subst, ◌∙◌, refl, arith, length-append, length-take}
-use Rattle.std.proofs.lemmas.Bool.{and_parts, and_from}
+use Rattle.std.proofs.lemmas.Bool.{and_parts, and_from, not-true}
 use Rattle.std.proofs.lemmas.List.{length-map, take-append-le, take-take, take_all}
 use Rattle.std.proofs.lemmas.List.Elements.{All-cons, All-head, All-tail}
 use Rattle.std.proofs.lemmas.Str.{IsUtf8-nil, is_utf8-from_IsUtf8}
@@ -30,17 +30,13 @@ fewer_named n (x ∷ xs) (suc i) h = by_name (bytes_eq x.name n) h (λ k. fewer_
     by_name true k more = absurd (cc)
     by_name false k more = more k
 
-is_false : (b : Bool) → not b ≡ true → b ≡ false
-is_false true h = absurd (cc)
-is_false false h = refl
-
 pub distinct_removed : (xs : List Attribute) (i : ℕ) → has_distinct_names xs ≡ true → has_distinct_names (remove xs i) ≡ true
 distinct_removed [] zero h = refl
 distinct_removed [] (suc i) h = refl
 distinct_removed (x ∷ xs) zero h = (and_parts (not (has_name x.name xs)) (has_distinct_names xs) h).1
 distinct_removed (x ∷ xs) (suc i) h =
     let parts = and_parts (not (has_name x.name xs)) (has_distinct_names xs) h in
-    and_from (not (has_name x.name (remove xs i))) (has_distinct_names (remove xs i)) (ap not (fewer_named x.name xs i (is_false (has_name x.name xs) parts.0))) (distinct_removed xs i parts.1)
+    and_from (not (has_name x.name (remove xs i))) (has_distinct_names (remove xs i)) (ap not (fewer_named x.name xs i (not-true (has_name x.name xs) parts.0))) (distinct_removed xs i parts.1)
 
 pub texts_removed : (xs : List Attribute) (i : ℕ) → are_texts xs ≡ true → are_texts (remove xs i) ≡ true
 texts_removed [] zero h = refl

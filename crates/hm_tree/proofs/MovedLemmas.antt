@@ -1,6 +1,6 @@
 -- Walks in which an attribute goes after the others of its tag.
 use Rattle.std.proofs.Common.{◌≡◌, ℕ, zero, suc, ◌+◌, ◌<◌, ◌≤◌, Bool, true, false, not, ◌&&◌, List, [], ◌∷◌, ◌++◌, length, map, get_or, slice_get, Some, All, ap, ◌∙◌, refl, sym, subst, arith, length-append}
-use Rattle.std.proofs.lemmas.Bool.{and_parts, and_from}
+use Rattle.std.proofs.lemmas.Bool.{and_parts, and_from, not-true}
 use Rattle.std.proofs.lemmas.List.{map-append}
 use Rattle.std.proofs.lemmas.List.Elements.{All-cons, All-head, All-push, All-tail}
 use Rattle.std.specs.List.{remove}
@@ -50,15 +50,11 @@ same_name n i [] = refl
 same_name n zero (x ∷ xs) = has_name-push n xs x
 same_name n (suc i) (x ∷ xs) = rw (same_name n i xs) refl
 
-is_false : (b : Bool) → not b ≡ true → b ≡ false
-is_false true h = absurd (cc)
-is_false false h = refl
-
 distinct : (i : ℕ) (xs : List Attribute) → has_distinct_names xs ≡ true → has_distinct_names (moved i xs) ≡ true
 distinct i [] h = refl
 distinct zero (x ∷ xs) h =
     let parts = and_parts (not (has_name x.name xs)) (has_distinct_names xs) h in
-    has_distinct_names-push xs x parts.1 (is_false (has_name x.name xs) parts.0)
+    has_distinct_names-push xs x parts.1 (not-true (has_name x.name xs) parts.0)
 distinct (suc i) (x ∷ xs) h =
     let parts = and_parts (not (has_name x.name xs)) (has_distinct_names xs) h in
     and_from (not (has_name x.name (moved i xs))) (has_distinct_names (moved i xs)) (ap not (same_name x.name i xs) ∙ parts.0) (distinct i xs parts.1)

@@ -1,6 +1,6 @@
 -- Attributes as pieces of a text, where more is appended to the text and to them.
 use Rattle.std.proofs.Common.{◌≡◌, ℕ, ◌+◌, ◌-◌, ◌≤◌, zero, suc, Bool, true, false, not, cond, ◌&&◌, List, [], ◌∷◌, ◌++◌, length, take, drop, get_or, slice_get, Some, slice_range, All, bytes_eq, IsUtf8, ap, ◌∙◌, refl, arith, append_assoc, length-append, length-drop}
-use Rattle.std.proofs.lemmas.Bool.{and_parts}
+use Rattle.std.proofs.lemmas.Bool.{and_parts, not-true}
 use Rattle.std.proofs.lemmas.Grind.{flat_map-append}
 use Rattle.std.proofs.lemmas.List.{append-nil, drop_all, drop_more, drop-append-le, take-append-le, map-append}
 use Rattle.std.proofs.lemmas.List.Elements.{All-head, All-tail, All-push, All-take, All-drop}
@@ -61,10 +61,6 @@ few_named (a ∷ attributes) h =
     let parts = neither (bytes_eq a.name []) (has_name [] attributes) h in
     omega (arith, named a.name parts.0, few_named attributes parts.1)
 
-is_false : (b : Bool) → not b ≡ true → b ≡ false
-is_false true h = absurd (cc)
-is_false false h = refl
-
 by_name : (a : Attribute) (attributes : List Attribute) (n : List ℕ) → a.name ≡ n → has_name a.name attributes ≡ false → length attributes ≤ attributes_size attributes + 1
     → length (a ∷ attributes) ≤ attributes_size (a ∷ attributes) + 1
 by_name a attributes [] e other few = omega (arith, few_named attributes (rw e at other))
@@ -75,7 +71,7 @@ pub few_attributes : (attributes : List Attribute) → has_distinct_names attrib
 few_attributes [] h = omega arith
 few_attributes (a ∷ attributes) h =
     let parts = and_parts (not (has_name a.name attributes)) (has_distinct_names attributes) h in
-    by_name a attributes a.name refl (is_false (has_name a.name attributes) parts.0) (few_attributes attributes parts.1)
+    by_name a attributes a.name refl (not-true (has_name a.name attributes) parts.0) (few_attributes attributes parts.1)
 
 -- one more attribute
 module _ (s : List ℕ) (before : List AttributePieces) (attributes : List Attribute) (t : List ℕ) (pieces : List AttributePieces) (h : IsAppended s before attributes t pieces)

@@ -1,4 +1,5 @@
 use Rattle.std.proofs.Common.{◌≡◌, ◌∙◌, ℕ, zero, suc, ◌<◌, ◌≤◌, ◌==◌, Bool, true, false, not, List, ◌++◌, length, take, refl, sym, ap, arith, append_assoc, length-append, length-take, Some, None}
+use Rattle.std.proofs.lemmas.Bool.{not-false}
 use Rattle.std.specs.declared.option.Option.{Option}
 use Rattle.std.specs.Io.KnownBytes.{prepend_known}
 use Rattle.std.proofs.Transfers.{starts_with_of_append}
@@ -12,12 +13,8 @@ some_taken : (n : ℕ) → not (n == 0) ≡ true → 0 < n
 some_taken zero h = absurd (cc)
 some_taken (suc n) h = omega arith
 
-was_true : (b : Bool) → not b ≡ false → b ≡ true
-was_true true h = refl
-was_true false h = absurd (cc)
-
 none_taken : (n : ℕ) → not (n == 0) ≡ false → n ≡ 0
-none_taken n h = (Decides-eqb n 0).0 (was_true (n == 0) h)
+none_taken n h = (Decides-eqb n 0).0 (not-false (n == 0) h)
 
 known_after : (old s : List ℕ) (b : Option (List ℕ)) → prepend_known old (prepend_known s b) ≡ prepend_known (old ++ s) b
 known_after old s None = refl

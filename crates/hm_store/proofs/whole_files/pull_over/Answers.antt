@@ -1,14 +1,10 @@
 use Rattle.std.proofs.Common.{◌≡◌, ◌∙◌, ◌+◌, ◌&&◌, ◌==◌, not, List, ℕ, Bool, true, false, [], length, take, Ok, inl, inr, refl, sym, ap, subst, arith, length-take}
+use Rattle.std.proofs.lemmas.Bool.{and_parts}
 use Rattle.std.specs.declared.result.Result.{Result}
 use Rattle.std.specs.Io.KnownBytes.{prepend_known}
 use Rattle.hm_store.specs.Files.{Takes}
 use Rattle.hm_store.proofs.LoadLemmas.{taken_over}
 use Rattle.hm_store.proofs.whole_files.pull_over.Goals as goal
-
-both : (a b : Bool) → a && b ≡ true → (a ≡ true) × (b ≡ true)
-both true true e = (refl, refl)
-both true false e = absurd (cc)
-both false b e = absurd (cc)
 
 ok_is : (E : Type 0) (a b : Bool) → ◌≡◌ {A = Result Bool E} (Ok a) (Ok b) → a ≡ b
 ok_is E a b e = cc
@@ -51,8 +47,8 @@ returns-in_err-count-clause-later g c = omega (arith, c.pull_next_over.ensures.l
 
 pub returns-then-count-eq0-clause-expected : goal.returns-then-count-eq0-clause-expected
 returns-then-count-eq0-clause-expected g c = λ e.
-    let all = both c.cut_at.result (c.loop-at.is_expected && c.in_ok-count.is_same) (ok_is _ _ _ e) in
-    let each = both c.loop-at.is_expected c.in_ok-count.is_same all.1 in
+    let all = and_parts c.cut_at.result (c.loop-at.is_expected && c.in_ok-count.is_same) (ok_is _ _ _ e) in
+    let each = and_parts c.loop-at.is_expected c.in_ok-count.is_same all.1 in
     ◌∙◌ {A = List ℕ} (c.cut_at.ensures.whole all.0) (◌∙◌ {A = List ℕ} (c.in_ok-count.ensures.expected each.1) (c.loop-at.invariant.expected each.0))
 
 pub returns-then-count-eq0-clause-same : goal.returns-then-count-eq0-clause-same
@@ -95,7 +91,7 @@ loop-at-preserved g c =
       whole = sym {b = prepend_known (take (c.loop-at.at + c.in_ok-count.count) c.pull_next_over.new.bytes.items) (g.S.Store.rest c.pull_next_over.new.store)} pulled.follows.whole ∙ held.whole;
       there = pulled.there;
       most = pulled.most;
-      expected = λ h. ◌∙◌ {A = List ℕ} (pulled.expected (both _ _ h).1) (held.expected (both _ _ h).0);
+      expected = λ h. ◌∙◌ {A = List ℕ} (pulled.expected (and_parts _ _ h).1) (held.expected (and_parts _ _ h).0);
       steady = pulled.steady ∙ held.steady;
       piece = ◌∙◌ {A = ℕ} c.pull_next_over.auto.piece held.piece;
     }
@@ -104,7 +100,7 @@ loop-at-preserved g c =
 
 pub returns-clause-expected : goal.returns-clause-expected
 returns-clause-expected g c = λ e.
-    let all = both c.cut_at-2.result c.loop-at.is_expected (ok_is _ _ _ e) in
+    let all = and_parts c.cut_at-2.result c.loop-at.is_expected (ok_is _ _ _ e) in
     ◌∙◌ {A = List ℕ} (c.cut_at-2.ensures.whole all.0) (c.loop-at.invariant.expected all.1)
 
 pub returns-clause-same : goal.returns-clause-same

@@ -1,7 +1,6 @@
-use Rattle.std.proofs.Common.{◌≡◌, ◌+◌, ◌-◌, ◌<◌, ◌≤◌, ℕ, List, length, map, drop, sym, ap, ◌∙◌, arith}
+use Rattle.std.proofs.Common.{◌≡◌, length, map, drop, sym, ap, ◌∙◌, arith}
 use Rattle.std.specs.String.{string_bytes}
 use Rattle.hm_base.specs.Source.{Source, byte_of}
-use Rattle.hm_base.specs.Places.{pairs_after, source_from}
 use Rattle.hm_base.proofs.Places.{source_from-bytes}
 use Rattle.hm_base.proofs.Dropped.{end_after, inside_text, invariant_after, length_after, source_after, view_after}
 use Rattle.hm_base.proofs.source.SourceText.drop_front.Goals as goal

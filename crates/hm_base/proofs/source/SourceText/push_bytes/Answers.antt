@@ -1,7 +1,7 @@
 use Rattle.std.proofs.Common.{arith, ◌∙◌, ap}
 use Rattle.std.specs.String.{string_bytes}
 use Rattle.hm_base.specs.Source.{Source}
-use Rattle.hm_base.specs.Places.{start_of, with_bytes}
+use Rattle.hm_base.specs.Places.{with_bytes}
 use Rattle.hm_base.proofs.Places.{source_from-append, IsSourceText-append}
 use Rattle.hm_base.proofs.source.SourceText.push_bytes.Goals as goal
 

@@ -1,7 +1,7 @@
 use Rattle.std.proofs.Common.{[], ◌∷◌, arith, ◌∙◌, ap, refl}
 use Rattle.std.specs.String.{string_bytes}
 use Rattle.hm_base.specs.Source.{Source}
-use Rattle.hm_base.specs.Places.{start_of, with_pair}
+use Rattle.hm_base.specs.Places.{with_pair}
 use Rattle.hm_base.proofs.Places.{source_from_pair, IsSourceText-append, IsSourceText_pair}
 use Rattle.hm_base.proofs.source.SourceText.push_pair.Goals as goal
 

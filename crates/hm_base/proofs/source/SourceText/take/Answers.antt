@@ -1,5 +1,4 @@
-use Rattle.std.proofs.Common.{◌≡◌, true, None, length, arith, refl, sym, ap}
-use Rattle.std.specs.String.{string_bytes}
+use Rattle.std.proofs.Common.{◌≡◌, true, None, length, arith, refl, ap}
 use Rattle.hm_base.specs.Bytes.{all_pass}
 use Rattle.hm_base.specs.Source.{is_text_byte, text_fault}
 use Rattle.hm_base.proofs.Faults.{no_zero}

@@ -1,7 +1,6 @@
 use Rattle.std.proofs.Common.{length, map, sym, arith, ◌∙◌, ap}
 use Rattle.std.specs.String.{string_bytes}
 use Rattle.hm_base.specs.Source.{Source, byte_of}
-use Rattle.hm_base.specs.Places.{start_of}
 use Rattle.hm_base.proofs.Places.{source_from-bytes, source_from-length, source_from-end}
 use Rattle.hm_base.proofs.source.SourceText.text.Goals as goal
 

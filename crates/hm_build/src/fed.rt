@@ -118,7 +118,7 @@ fn build_rest(
 /// token. `feed` and `scan` take all ready tokens before they return, and drop their text. `gather` looks for no token,
 /// so that a long one that is read in many pieces can be looked at less often.
 #[derive(Drop)]
-pub struct Builder<'t> {
+pub struct PageParser<'t> {
     text: TextPieces,
     table: &'t Table,
     tree: TreeBuilder,
@@ -130,7 +130,7 @@ pub struct Builder<'t> {
     alloc: Global,
 }
 
-impl<'t> Model for Builder<'t> {
+impl<'t> Model for PageParser<'t> {
     ghost use Rattle.hm_build.specs.Feeding.{Feeding, IsFeeding};
 
     ghost Value = { Feeding };
@@ -140,9 +140,9 @@ impl<'t> Model for Builder<'t> {
     ghost invariant = { λ b. IsFeeding (record { names = b.table.now.entries; pieces = b.text; building = b.tree; refused = b.refused; is_broken = b.is_broken }) };
 }
 
-impl<'t> Builder<'t> {
+impl<'t> PageParser<'t> {
     /// Nothing is read yet. At most `limit` bytes of the page may follow.
-    pub fn new(alloc: Global, table: &'t Table, limit: u32) -> Result<Builder<'t>, OutOfMemory>
+    pub fn new(alloc: Global, table: &'t Table, limit: u32) -> Result<PageParser<'t>, OutOfMemory>
         requires { limit ≤ OUTPUT_LIMIT }
         ensures read { IfOk result (λ builder. HasRead builder []) }
         ensures names { IfOk result (λ builder. builder.names ≡ table.now.entries) }
@@ -154,7 +154,7 @@ impl<'t> Builder<'t> {
             Ok(tree) => tree,
             Err(OutOfMemory) => return Err(OutOfMemory),
         };
-        Ok(Builder {
+        Ok(PageParser {
             text,
             table,
             tree,
@@ -256,7 +256,7 @@ impl<'t> Builder<'t> {
         ensures broken { self.entry.is_broken ≡ true → result ≡ Err Refused.OutOfMemory }
     {
         every_table(self.table);
-        let Builder {
+        let PageParser {
             text,
             table,
             tree,

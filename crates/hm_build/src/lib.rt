@@ -7,5 +7,5 @@ mod places;
 mod ready;
 mod tokens;
 
-pub use fed::Builder;
+pub use fed::PageParser;
 pub use page::{parse, parse_closed};

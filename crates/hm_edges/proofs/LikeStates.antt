@@ -4,7 +4,7 @@ use Rattle.hm_graph_laws.proofs.States.{same_is}
 use Rattle.hm_refs.specs.Tables.{TableView, IsNode, front_at}
 use Rattle.hm_graph_laws.specs.States as states
 use Rattle.hm_edges.specs.declared.states.Where.{Where}
-use Rattle.hm_edges.specs.declared.states.Where.TheVariants.{Outside, Loose, SelfClosed, AfterName, AfterUnquoted, AfterQuoted, InUnquoted, InDouble, InSingle, InSection}
+use Rattle.hm_edges.specs.declared.states.Where.TheVariants.{Outside, AfterOmittedEnd, SelfClosed, AfterName, AfterUnquoted, AfterQuoted, InUnquoted, InDouble, InSingle, InSection}
 use Rattle.hm_edges.specs.declared.states.Pending.{Pending}
 use Rattle.hm_edges.specs.declared.states.Pending.TheVariants.{Nothing, LessThan, Hash, HashX, Decimal, Hexadecimal, Ampersand, Named, Half, OneBracket, TwoBrackets}
 use Rattle.hm_edges.specs.declared.states.State.{State}
@@ -12,7 +12,7 @@ use Rattle.hm_edges.specs.States.{where_of, pending_of, state_of, HasNodes}
 
 abbrev where_back : states.Where → Where
 where_back states.outside = Outside
-where_back states.loose = Loose
+where_back states.after_omitted_end = AfterOmittedEnd
 where_back states.self_closed = SelfClosed
 where_back states.after_name = AfterName
 where_back states.after_unquoted = AfterUnquoted
@@ -24,7 +24,7 @@ where_back states.in_section = InSection
 
 there_and_back : (a : Where) → where_back (where_of a) ≡ a
 there_and_back Outside = refl
-there_and_back Loose = refl
+there_and_back AfterOmittedEnd = refl
 there_and_back SelfClosed = refl
 there_and_back AfterName = refl
 there_and_back AfterUnquoted = refl

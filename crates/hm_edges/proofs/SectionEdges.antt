@@ -16,7 +16,7 @@ going_on (Some d) more front c p e = rw e refl
 
 never_foreign : (at : Where) → is_foreign (value_spot at) ≡ false
 never_foreign states.outside = refl
-never_foreign states.loose = refl
+never_foreign states.after_omitted_end = refl
 never_foreign states.self_closed = refl
 never_foreign states.after_name = refl
 never_foreign states.after_unquoted = refl

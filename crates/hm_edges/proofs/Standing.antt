@@ -20,8 +20,8 @@ use Rattle.hm_edges.specs.Units.{StandsFor, needs_of, fixed, start_tag, tag_name
 pub of_fixed : (t : List Entry) (len : ℕ) (P : units.Unit → Type 0) → ((b : List ℕ) → P (units.fixed b)) → (u : units.Unit) → StandsFor t (code.Fixed len) u → P u
 of_fixed t len P f u (fixed b l e) = f b
 
-pub of_start_tag : (t : List Entry) (len : ℕ) (omits firm closes : Bool) (P : units.Unit → Type 0) → ((n : List ℕ) → P (units.start_tag n omits firm closes)) → (u : units.Unit) → StandsFor t (code.StartTag len omits firm closes) u → P u
-of_start_tag t len omits firm closes P f u (start_tag n l o i c e) = f n
+pub of_start_tag : (t : List Entry) (len : ℕ) (omits required_after_omission closes : Bool) (P : units.Unit → Type 0) → ((n : List ℕ) → P (units.start_tag n omits required_after_omission closes)) → (u : units.Unit) → StandsFor t (code.StartTag len omits required_after_omission closes) u → P u
+of_start_tag t len omits required_after_omission closes P f u (start_tag n l o i c e) = f n
 
 pub of_tag_name : (t : List Entry) (len : ℕ) (P : units.Unit → Type 0) → ((n : List ℕ) → P (units.tag_name n)) → (u : units.Unit) → StandsFor t (code.TagName len) u → P u
 of_tag_name t len P f u (tag_name n l e) = f n
@@ -44,8 +44,8 @@ of_attribute_end t P f u attribute_end = f
 pub of_tag_close : (t : List Entry) (closes : Bool) (P : units.Unit → Type 0) → P (units.tag_close closes) → (u : units.Unit) → StandsFor t (code.TagClose closes) u → P u
 of_tag_close t closes P f u (tag_close c) = f
 
-pub of_end_tag : (t : List Entry) (len : ℕ) (omits loosens : Bool) (P : units.Unit → Type 0) → ((n : List ℕ) → P (units.end_tag n omits loosens)) → (u : units.Unit) → StandsFor t (code.EndTag len omits loosens) u → P u
-of_end_tag t len omits loosens P f u (end_tag n l o w e) = f n
+pub of_end_tag : (t : List Entry) (len : ℕ) (omits notes_omission : Bool) (P : units.Unit → Type 0) → ((n : List ℕ) → P (units.end_tag n omits notes_omission)) → (u : units.Unit) → StandsFor t (code.EndTag len omits notes_omission) u → P u
+of_end_tag t len omits notes_omission P f u (end_tag n l o w e) = f n
 
 -- ---- What was found, by what was added to an empty buffer
 

@@ -16,14 +16,14 @@ use Rattle.hm_edges.specs.States.{HasNodes, state_of}
 -- the unit's own bytes: its name, its bytes without a choice, or its character
 abbrev pub own_bytes : units.Unit → List ℕ
 own_bytes (units.fixed b) = b
-own_bytes (units.start_tag n omits firm closes) = n
+own_bytes (units.start_tag n omits required_after_omission closes) = n
 own_bytes (units.tag_name n) = n
 own_bytes (units.bare_attribute n) = n
 own_bytes (units.attribute_name n v) = n
 own_bytes (units.character kind c next) = encode_utf8 c
 own_bytes units.attribute_end = []
 own_bytes (units.tag_close closes) = []
-own_bytes (units.end_tag n omits loosens) = n
+own_bytes (units.end_tag n omits notes_omission) = n
 
 abbrev pub with_gap : Bool → List ℕ → List ℕ
 with_gap gap b = (if gap then 32 ∷ [] else []) ++ b

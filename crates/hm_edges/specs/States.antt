@@ -5,7 +5,7 @@ use Rattle.hm_refs.specs.Tables.{TableView, IsNode, front_at}
 use Rattle.hm_spelling_spec.specs.Characters as spots
 use Rattle.hm_graph_laws.specs.States as states
 use Rattle.hm_edges.specs.declared.states.Where.{Where}
-use Rattle.hm_edges.specs.declared.states.Where.TheVariants.{Outside, Loose, SelfClosed, AfterName, AfterUnquoted, AfterQuoted, InUnquoted, InDouble, InSingle, InSection}
+use Rattle.hm_edges.specs.declared.states.Where.TheVariants.{Outside, AfterOmittedEnd, SelfClosed, AfterName, AfterUnquoted, AfterQuoted, InUnquoted, InDouble, InSingle, InSection}
 use Rattle.hm_edges.specs.declared.states.Pending.{Pending}
 use Rattle.hm_edges.specs.declared.states.Pending.TheVariants.{Nothing, LessThan, Hash, HashX, Decimal, Hexadecimal, Ampersand, Named, Half, OneBracket, TwoBrackets}
 use Rattle.hm_edges.specs.declared.states.Spot.{Spot}
@@ -14,7 +14,7 @@ use Rattle.hm_edges.specs.declared.states.State.{State}
 
 abbrev pub where_of : Where → states.Where
 where_of Outside = states.outside
-where_of Loose = states.loose
+where_of AfterOmittedEnd = states.after_omitted_end
 where_of SelfClosed = states.self_closed
 where_of AfterName = states.after_name
 where_of AfterUnquoted = states.after_unquoted

@@ -60,7 +60,7 @@ needs_of t v = record { double = need_for t (λ c. c == 34) v; single = need_for
 -- the code point that a name gives together with it, and whether there is one.
 pub data StandsFor (t : List Entry) : Unit → units.Unit → Type 0 where
   fixed : (b : List ℕ) (len : ℕ) → length b ≡ len → StandsFor t (code.Fixed len) (units.fixed b)
-  start_tag : (n : List ℕ) (len : ℕ) (omits firm closes : Bool) → length n ≡ len → StandsFor t (code.StartTag len omits firm closes) (units.start_tag n omits firm closes)
+  start_tag : (n : List ℕ) (len : ℕ) (omits required_after_omission closes : Bool) → length n ≡ len → StandsFor t (code.StartTag len omits required_after_omission closes) (units.start_tag n omits required_after_omission closes)
   tag_name : (n : List ℕ) (len : ℕ) → length n ≡ len → StandsFor t (code.TagName len) (units.tag_name n)
   bare_attribute : (n : List ℕ) (len : ℕ) → length n ≡ len → StandsFor t (code.BareAttribute len) (units.bare_attribute n)
   attribute_name : (n v : List ℕ) (len : ℕ) (needs : Needs) → length n ≡ len → needs ≡ needs_of t v → StandsFor t (code.AttributeName len needs) (units.attribute_name n v)
@@ -68,4 +68,4 @@ pub data StandsFor (t : List Entry) : Unit → units.Unit → Type 0 where
       → StandsFor t (code.Character kind c pair more) (units.character (kind_of kind) c next)
   attribute_end : StandsFor t code.AttributeEnd units.attribute_end
   tag_close : (closes : Bool) → StandsFor t (code.TagClose closes) (units.tag_close closes)
-  end_tag : (n : List ℕ) (len : ℕ) (omits loosens : Bool) → length n ≡ len → StandsFor t (code.EndTag len omits loosens) (units.end_tag n omits loosens)
+  end_tag : (n : List ℕ) (len : ℕ) (omits notes_omission : Bool) → length n ≡ len → StandsFor t (code.EndTag len omits notes_omission) (units.end_tag n omits notes_omission)

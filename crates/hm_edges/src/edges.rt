@@ -50,31 +50,31 @@ pub(crate) fn add_if(
 }
 
 /// Whether the last tag is an omitted end tag after which `tbody` and `colgroup` keep their start tags.
-fn is_loose(at: Where) -> bool
-    ensures { result ≡ tags.is_loose (where_of at) }
+fn is_after_omitted_end(at: Where) -> bool
+    ensures { result ≡ tags.is_after_omitted_end (where_of at) }
 {
     match at {
-        Where::Loose => true,
+        Where::AfterOmittedEnd => true,
         _ => false,
     }
 }
 
 /// The place in the markup, with the mark of a loose end removed.
-fn unloosed(at: Where) -> Where
-    ensures { where_of result ≡ tags.unloosed (where_of at) }
+fn omission_forgotten(at: Where) -> Where
+    ensures { where_of result ≡ tags.omission_forgotten (where_of at) }
 {
     match at {
-        Where::Loose => Where::Outside,
+        Where::AfterOmittedEnd => Where::Outside,
         _ => at,
     }
 }
 
-/// Whether an optional start tag may be omitted. `tbody` and `colgroup` (`firm`) may not directly after an omitted end
-/// tag.
-fn may_fall(omits: bool, firm: bool, at: Where) -> bool
-    ensures { result ≡ (omits && not (firm && tags.is_loose (where_of at))) }
+/// Whether an optional start tag may be left out. Those of `tbody` and `colgroup` are required directly after an end tag
+/// that was left out.
+fn may_fall(omits: bool, required_after_omission: bool, at: Where) -> bool
+    ensures { result ≡ (omits && not (required_after_omission && tags.is_after_omitted_end (where_of at))) }
 {
-    omits && !(firm && is_loose(at))
+    omits && !(required_after_omission && is_after_omitted_end(at))
 }
 
 /// Adds the edges of a start tag without attributes: nothing, if it may be omitted; the tag; the tag with a `/`, if it
@@ -82,15 +82,21 @@ fn may_fall(omits: bool, firm: bool, at: Where) -> bool
 fn add_start_edges(
     into: &mut Vec<Edge>,
     omits: bool,
-    firm: bool,
+    required_after_omission: bool,
     closes: bool,
     from: State,
 ) -> Result<(), OutOfMemory>
     ensures { (v : TableView) (n : List ℕ) → HasNodes v from.pending
-        → AddsEdges result v (units.start_tag n omits firm closes) into.old.items into.new.items (tags.start_edges n omits firm closes (state_of v from)) }
+        → AddsEdges result v (units.start_tag n omits required_after_omission closes) into.old.items into.new.items (tags.start_edges n omits required_after_omission closes (state_of v from)) }
 {
-    let falls = may_fall(omits, firm, from.at);
-    add_if(falls, into, Piece::Nothing, unloosed(from.at), from.pending)?;
+    let falls = may_fall(omits, required_after_omission, from.at);
+    add_if(
+        falls,
+        into,
+        Piece::Nothing,
+        omission_forgotten(from.at),
+        from.pending,
+    )?;
     add(
         into,
         Piece::StartTag { closes: false },
@@ -107,13 +113,13 @@ fn add_start_edges(
 }
 
 /// The state after an omitted end tag.
-fn after_left_out(loosens: bool, from: State) -> State
-    ensures state { (v : TableView) → state_of v result ≡ tags.after_left_out loosens (state_of v from) }
+fn after_left_out(notes_omission: bool, from: State) -> State
+    ensures state { (v : TableView) → state_of v result ≡ tags.after_left_out notes_omission (state_of v from) }
     ensures nodes { (v : TableView) → HasNodes v from.pending → HasNodes v result.pending }
 {
-    if loosens {
+    if notes_omission {
         State {
-            at: Where::Loose,
+            at: Where::AfterOmittedEnd,
             pending: Pending::Nothing,
         }
     } else {
@@ -136,16 +142,16 @@ fn is_self_closed(at: Where) -> bool
 fn add_end_edges(
     into: &mut Vec<Edge>,
     omits: bool,
-    loosens: bool,
+    notes_omission: bool,
     from: State,
 ) -> Result<(), OutOfMemory>
     ensures { (v : TableView) (n : List ℕ) → HasNodes v from.pending
-        → AddsEdges result v (units.end_tag n omits loosens) into.old.items into.new.items (tags.end_edges n omits loosens (state_of v from)) }
+        → AddsEdges result v (units.end_tag n omits notes_omission) into.old.items into.new.items (tags.end_edges n omits notes_omission (state_of v from)) }
 {
     if is_self_closed(from.at) {
         return add(into, Piece::Nothing, Where::Outside, Pending::Nothing);
     }
-    let to = after_left_out(loosens, from);
+    let to = after_left_out(notes_omission, from);
     add_if(omits, into, Piece::Nothing, to.at, to.pending)?;
     add(into, Piece::EndTag, Where::Outside, Pending::Nothing)
 }
@@ -328,9 +334,9 @@ pub fn find_edges(
         Unit::StartTag {
             len: _,
             omits,
-            firm,
+            required_after_omission,
             closes,
-        } => add_start_edges(into, omits, firm, closes, from),
+        } => add_start_edges(into, omits, required_after_omission, closes, from),
         Unit::TagName { len: _ } => add(into, Piece::TagName, Where::AfterName, Pending::Nothing),
         Unit::BareAttribute { len: _ } => add_bare_edges(into, rules.tight, from),
         Unit::AttributeName { len: _, needs: _ } => {
@@ -355,7 +361,7 @@ pub fn find_edges(
         Unit::EndTag {
             len: _,
             omits,
-            loosens,
-        } => add_end_edges(into, omits, loosens, from),
+            notes_omission,
+        } => add_end_edges(into, omits, notes_omission, from),
     }
 }

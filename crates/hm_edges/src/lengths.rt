@@ -21,7 +21,7 @@ fn own_len(unit: Unit) -> u64
         Unit::StartTag {
             len,
             omits: _,
-            firm: _,
+            required_after_omission: _,
             closes: _,
         } => u64::from(len),
         Unit::TagName { len } => u64::from(len),
@@ -38,7 +38,7 @@ fn own_len(unit: Unit) -> u64
         Unit::EndTag {
             len,
             omits: _,
-            loosens: _,
+            notes_omission: _,
         } => u64::from(len),
     }
 }

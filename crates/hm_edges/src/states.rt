@@ -8,7 +8,7 @@ pub enum Where {
     #[default]
     Outside,
     /// Outside of tags, after the omitted end tag of a table's section or of `colgroup`.
-    Loose,
+    AfterOmittedEnd,
     /// After a start tag of SVG with a `/`, which ends the element too.
     SelfClosed,
     /// In a tag, after its name or an attribute without value.

@@ -39,12 +39,12 @@ pub enum Unit {
     Fixed {
         len: u32,
     },
-    /// A start tag without attributes. `omits`: it may be omitted; `firm`: but not directly after an omitted end tag of
+    /// A start tag without attributes. `omits`: it may be omitted; `required_after_omission`: but not directly after an omitted end tag of
     /// a table's section or of `colgroup`; `closes`: it may close itself.
     StartTag {
         len: u32,
         omits: bool,
-        firm: bool,
+        required_after_omission: bool,
         closes: bool,
     },
     /// `<` and the name of a tag with attributes.
@@ -75,11 +75,11 @@ pub enum Unit {
     TagClose {
         closes: bool,
     },
-    /// An end tag. `omits`: it may be omitted; `loosens`: `tbody` and `colgroup` can't be omitted directly after it
+    /// An end tag. `omits`: it may be omitted; `notes_omission`: `tbody` and `colgroup` can't be omitted directly after it
     /// then.
     EndTag {
         len: u32,
         omits: bool,
-        loosens: bool,
+        notes_omission: bool,
     },
 }

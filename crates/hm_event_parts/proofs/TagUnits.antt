@@ -5,7 +5,7 @@ use Rattle.hm_base.specs.declared.plain.SpellRules.{SpellRules}
 use Rattle.hm_elements.specs.Paths.{current}
 use Rattle.hm_elements.specs.Tables.{is_void}
 use Rattle.hm_spelling_spec.specs.Omission.{start_falls, end_falls, may_omit_end}
-use Rattle.hm_graph_laws.specs.Units.{Previous, start_tag, end_tag, is_firm, may_close_itself, start_units, is_loose_end, end_units}
+use Rattle.hm_graph_laws.specs.Units.{Previous, start_tag, end_tag, is_required_after_omission, may_close_itself, start_units, is_omission_noted, end_units}
 
 -- of what follows it, a start or an end depends on the next event alone
 start_by_next : (frame : Bool) (n : List ℕ) (w : List Event) → start_falls frame n (take 1 w) ≡ start_falls frame n w
@@ -37,13 +37,13 @@ closes_by_next foreign (end m in_svg ∷ w) = refl
 module _ (r : SpellRules) (n : List ℕ) (foreign : Bool) (v w : List Event) (next : v ≡ take 1 w) where
   module _ (previous : Previous) (closes : Bool) (may_close : closes ≡ may_close_itself foreign v) where
     -- a start without attributes
-    pub start_alone : (attributes : List Attribute) (omits firm : Bool) → length attributes ≡ 0 → omits ≡ r.omit && (not foreign && start_falls r.frame n v) → firm ≡ is_firm previous n
-        → start_tag n omits firm closes ∷ [] ≡ start_units r previous n foreign attributes w
-    start_alone [] omits firm none may_omit is_firm = rw (may_omit, is_firm, may_close, next, start_by_next r.frame n w, closes_by_next foreign w) refl
-    start_alone (a ∷ attributes) omits firm none may_omit is_firm = absurd (omega arith)
+    pub start_alone : (attributes : List Attribute) (omits required_after_omission : Bool) → length attributes ≡ 0 → omits ≡ r.omit && (not foreign && start_falls r.frame n v) → required_after_omission ≡ is_required_after_omission previous n
+        → start_tag n omits required_after_omission closes ∷ [] ≡ start_units r previous n foreign attributes w
+    start_alone [] omits required_after_omission none may_omit is_required_after_omission = rw (may_omit, is_required_after_omission, may_close, next, start_by_next r.frame n w, closes_by_next foreign w) refl
+    start_alone (a ∷ attributes) omits required_after_omission none may_omit is_required_after_omission = absurd (omega arith)
 
   -- an end that has a tag
-  pub end_there : (path : List Element) (parent : List ℕ) (none omits loosens : Bool) → none ≡ not foreign && is_void n → none ≡ false → parent ≡ current path → omits ≡ r.omit && (not foreign && end_falls n parent v) → loosens ≡ is_loose_end n
-      → end_tag n omits loosens ∷ [] ≡ end_units r n foreign path w
+  pub end_there : (path : List Element) (parent : List ℕ) (none omits notes_omission : Bool) → none ≡ not foreign && is_void n → none ≡ false → parent ≡ current path → omits ≡ r.omit && (not foreign && end_falls n parent v) → notes_omission ≡ is_omission_noted n
+      → end_tag n omits notes_omission ∷ [] ≡ end_units r n foreign path w
   unfolding may_omit_end
-  end_there path parent none omits loosens void there around may_omit loose = rw (may_omit, around, next, end_by_next n (current path) w, loose, ← void, there) refl
+  end_there path parent none omits notes_omission void there around may_omit after_omitted_end = rw (may_omit, around, next, end_by_next n (current path) w, after_omitted_end, ← void, there) refl

@@ -8,7 +8,7 @@ use Rattle.hm_elements.specs.Omission.{before_rows, end_tag_optional_before, up_
 use Rattle.hm_elements.specs.Tables.{voids, is_void, sections, blocks, headings, is_section}
 use Rattle.hm_elements.proofs.TableTools.{same_bytes, entry_passes}
 use Rattle.hm_spelling_spec.specs.Omission.{begins_child_of, end_goes, start_falls, end_falls}
-use Rattle.hm_graph_laws.specs.Units.{Previous, is_firm, is_loose_end}
+use Rattle.hm_graph_laws.specs.Units.{Previous, is_required_after_omission, is_omission_noted}
 use Rattle.hm_event_parts.specs.Likely.{like_void, like_part, like_ended}
 
 -- ---- A test that names of a list pass and another name doesn't
@@ -55,14 +55,14 @@ no_bar : (m n : List ℕ) → like_part n ≡ false → start_tag_required_after
 unfolding start_tag_required_after
 no_bar m n unlikely = rw (unlike like_part n tbody unlikely refl, unlike like_part n colgroup unlikely refl) refl
 
-pub no_firm : (previous : Previous) (n : List ℕ) → like_part n ≡ false → is_firm previous n ≡ false
-no_firm None n unlikely = refl
-no_firm (Some (doctype legacy)) n unlikely = refl
-no_firm (Some (start m foreign attributes)) n unlikely = refl
-no_firm (Some (text s raw)) n unlikely = refl
-no_firm (Some (comment s)) n unlikely = refl
-no_firm (Some (end m true)) n unlikely = refl
-no_firm (Some (end m false)) n unlikely = no_bar m n unlikely
+pub none_required_after_omission : (previous : Previous) (n : List ℕ) → like_part n ≡ false → is_required_after_omission previous n ≡ false
+none_required_after_omission None n unlikely = refl
+none_required_after_omission (Some (doctype legacy)) n unlikely = refl
+none_required_after_omission (Some (start m foreign attributes)) n unlikely = refl
+none_required_after_omission (Some (text s raw)) n unlikely = refl
+none_required_after_omission (Some (comment s)) n unlikely = refl
+none_required_after_omission (Some (end m true)) n unlikely = refl
+none_required_after_omission (Some (end m false)) n unlikely = no_bar m n unlikely
 
 -- ---- End tags
 
@@ -87,7 +87,7 @@ pub no_end : (n parent : List ℕ) (w : List Event) → like_ended n ≡ false �
 unfolding end_falls
 no_end n parent w unlikely = rw (unlike like_ended n html unlikely refl, unlike like_ended n body unlikely refl, unlike like_ended n head unlikely refl) (no_goes n parent w unlikely)
 
-pub no_loose : (n : List ℕ) → like_part n ≡ false → is_loose_end n ≡ false
+pub no_loose : (n : List ℕ) → like_part n ≡ false → is_omission_noted n ≡ false
 unfolding is_section sections is_among
 no_loose n unlikely = rw (unlike_all like_part n sections unlikely refl, unlike like_part n colgroup unlikely refl) refl
 

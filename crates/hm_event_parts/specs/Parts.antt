@@ -11,26 +11,26 @@ use Rattle.hm_event_parts.specs.declared.parts.Part.TheVariants as parts
 -- the unit of a tree with these own bytes; a character isn't one of them, nor is what opens a value
 abbrev pub unit_with : Unit → List ℕ → units.Unit
 unit_with (code.Fixed len) b = units.fixed b
-unit_with (code.StartTag len omits firm closes) b = units.start_tag b omits firm closes
+unit_with (code.StartTag len omits required_after_omission closes) b = units.start_tag b omits required_after_omission closes
 unit_with (code.TagName len) b = units.tag_name b
 unit_with (code.BareAttribute len) b = units.bare_attribute b
 unit_with (code.AttributeName len needs) b = units.fixed b
 unit_with (code.Character kind c pair more) b = units.fixed b
 unit_with code.AttributeEnd b = units.attribute_end
 unit_with (code.TagClose closes) b = units.tag_close closes
-unit_with (code.EndTag len omits loosens) b = units.end_tag b omits loosens
+unit_with (code.EndTag len omits notes_omission) b = units.end_tag b omits notes_omission
 
 -- a unit that is no character and opens no value has these own bytes
 abbrev pub HasOwn : Unit → List ℕ → Type 0
 HasOwn (code.Fixed len) b = length b ≡ len
-HasOwn (code.StartTag len omits firm closes) b = length b ≡ len
+HasOwn (code.StartTag len omits required_after_omission closes) b = length b ≡ len
 HasOwn (code.TagName len) b = length b ≡ len
 HasOwn (code.BareAttribute len) b = length b ≡ len
 HasOwn (code.AttributeName len needs) b = ⊥
 HasOwn (code.Character kind c pair more) b = ⊥
 HasOwn code.AttributeEnd b = b ≡ []
 HasOwn (code.TagClose closes) b = b ≡ []
-HasOwn (code.EndTag len omits loosens) b = length b ≡ len
+HasOwn (code.EndTag len omits notes_omission) b = length b ≡ len
 
 -- a comment with its marks
 abbrev pub comment_bytes : List ℕ → List ℕ

@@ -9,10 +9,10 @@ ghost use Rattle.hm_event_parts.specs.Events.{previous_at, units_at};
 ghost use Rattle.hm_event_parts.specs.Found.{IsFound, found_units};
 ghost use Rattle.hm_event_parts.specs.Parts.{IsPart, part_units};
 
-use crate::left_out::{is_firm, may_close_itself, may_omit_end, may_omit_start};
+use crate::left_out::{is_required_after_omission, may_close_itself, may_omit_end, may_omit_start};
 use crate::likely::may_be_void;
 use crate::neighbours::element_around;
-use crate::omission::is_loose_end;
+use crate::omission::is_omission_noted;
 use crate::parts::Part;
 use crate::texts::{is_line_feed_due, text_kind};
 use hm_base::SpellRules;
@@ -127,7 +127,7 @@ fn start_found<'t>(
     let unit = Unit::StartTag {
         len: len_of(name),
         omits: may_omit_start(tree, rules, i, name, foreign),
-        firm: is_firm(tree, i, name),
+        required_after_omission: is_required_after_omission(tree, i, name),
         closes,
     };
     Found::Single {
@@ -163,7 +163,7 @@ fn end_found<'t>(tree: &Tree, rules: SpellRules, i: u32, name: &'t str, foreign:
     let unit = Unit::EndTag {
         len: len_of(name),
         omits: may_omit_end(tree, rules, i, name, foreign),
-        loosens: is_loose_end(name),
+        notes_omission: is_omission_noted(name),
     };
     Found::Single {
         part: Part::One { unit, own: name },

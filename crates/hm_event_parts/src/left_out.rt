@@ -152,7 +152,7 @@ fn end_falls(name: &str, parent: &str, next: Option<EventView<'_>>) -> bool
 
 /// Whether the start tag of this name is kept if the end tag of the previous event is omitted.
 fn is_barred(previous: Option<EventView<'_>>, name: &str) -> bool
-    ensures { result ≡ units.is_firm (previous_shown previous.entry) name.now }
+    ensures { result ≡ units.is_required_after_omission (previous_shown previous.entry) name.now }
 {
     match previous {
         Some(
@@ -166,9 +166,9 @@ fn is_barred(previous: Option<EventView<'_>>, name: &str) -> bool
 }
 
 /// Whether the start tag of event `i`, which has this name, is kept if the end tag directly before it is omitted.
-pub(crate) fn is_firm(tree: &Tree, i: u32, name: &str) -> bool
+pub(crate) fn is_required_after_omission(tree: &Tree, i: u32, name: &str) -> bool
     requires { i < length tree.now }
-    ensures { result ≡ units.is_firm (previous_at tree.now i) name.now }
+    ensures { result ≡ units.is_required_after_omission (previous_at tree.now i) name.now }
 {
     may_be_page_part(name) && is_barred(previous_event(tree, i), name)
 }

@@ -9,7 +9,7 @@ use Rattle.hm_elements.specs.Paths.{outer}
 use Rattle.hm_elements.specs.Tables.{is_void, voids, is_section, sections}
 use Rattle.hm_spelling_spec.specs.Omission.{start_falls, may_omit_end, end_falls}
 use Rattle.hm_spelling_spec.specs.Spellings.{wants_line_feed, opening, other}
-use Rattle.hm_graph_laws.specs.Units.{Unit, TextKind, fixed, start_tag, tag_name, attribute_end, tag_close, end_tag, character_units, attribute_units, start_units, end_units, text_units, line_feed_units, is_after_start, is_loose_end, may_close_itself, kind_of, Previous, units_from, units_of, in_value}
+use Rattle.hm_graph_laws.specs.Units.{Unit, TextKind, fixed, start_tag, tag_name, attribute_end, tag_close, end_tag, character_units, attribute_units, start_units, end_units, text_units, line_feed_units, is_after_start, is_omission_noted, may_close_itself, kind_of, Previous, units_from, units_of, in_value}
 use Rattle.hm_fragment.specs.Frames.{frame_start, frame_end}
 use Rattle.hm_fragment.proofs.Ways.{closes_unit, begins_end_tag, Follows}
 
@@ -52,7 +52,7 @@ calm_text previous path s false = calm_append (line_feed_units previous path (ch
 calm_end : (r : SpellRules) (n : List ℕ) (foreign : Bool) (path : List Element) (w : List Event) → Calm (end_units r n foreign path w)
 calm_end r n foreign path w = by (not foreign && is_void n)
   where
-    by : (b : Bool) → Calm (cond b [] (end_tag n (may_omit_end r n foreign path w) (is_loose_end n) ∷ []))
+    by : (b : Bool) → Calm (cond b [] (end_tag n (may_omit_end r n foreign path w) (is_omission_noted n) ∷ []))
     by true = tt
     by false = (refl, tt)
 
@@ -105,7 +105,7 @@ split_start r previous n foreign (a ∷ attributes) w inside units closes k =
       begins = λ h. cc;
     }
 
-frame_solid : (is_void body ≡ false) × ((is_void html ≡ false) × ((is_loose_end body ≡ false) × (is_loose_end html ≡ false)))
+frame_solid : (is_void body ≡ false) × ((is_void html ≡ false) × ((is_omission_noted body ≡ false) × (is_omission_noted html ≡ false)))
 unfolding is_void voids is_section sections is_among
 frame_solid = (refl, (refl, (refl, refl)))
 
@@ -171,7 +171,7 @@ body_stays r f w = rw f (and_false r.omit)
     and_false true = refl
     and_false false = refl
 
-frame_tight : (is_void head ≡ false) × ((is_loose_end head ≡ false) × (start_tag_required_after head body ≡ false))
+frame_tight : (is_void head ≡ false) × ((is_omission_noted head ≡ false) × (start_tag_required_after head body ≡ false))
 unfolding is_void voids is_section sections is_among start_tag_required_after
 frame_tight = (refl, (refl, refl))
 

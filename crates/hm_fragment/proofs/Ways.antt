@@ -7,11 +7,11 @@ use Rattle.hm_graph_laws.specs.UnitEdges.{edges_of}
 use Rattle.hm_graph_laws.specs.Ways.{Way}
 use Rattle.hm_refs.specs.Tables.{IsIn, first, later}
 use Rattle.hm_spelling_spec.specs.Tags.{Spelling, character_rules}
-use Rattle.hm_graph_laws.specs.TagEdges.{unloosed, after_left_out, is_self_closed, end_bytes}
+use Rattle.hm_graph_laws.specs.TagEdges.{omission_forgotten, after_left_out, is_self_closed, end_bytes}
 use Rattle.hm_graph_laws.specs.CharacterEdges.{Choice, kept_at, choices, spot_at, is_in_section, section_edges, section_edges_by, outside_edges}
 use Rattle.hm_graph_laws.proofs.In.{in_append, only}
 use Rattle.hm_graph_laws.specs.Edges.{Edge, edge, edge_to}
-use Rattle.hm_graph_laws.specs.States.{Where, outside, loose, self_closed, after_name, after_unquoted, after_quoted, in_unquoted, in_double, in_single, in_section, Pending, nothing, State, first_state}
+use Rattle.hm_graph_laws.specs.States.{Where, outside, after_omitted_end, self_closed, after_name, after_unquoted, after_quoted, in_unquoted, in_double, in_single, in_section, Pending, nothing, State, first_state}
 use Rattle.hm_graph_laws.specs.Units.{Unit, fixed, start_tag, tag_name, bare_attribute, attribute_name, character, attribute_end, tag_close, end_tag}
 use Rattle.hm_graph_laws.specs.UnitWays.{WayTo}
 use Rattle.hm_optimality_laws.proofs.Cuts.{Cut, cut, joined}
@@ -19,29 +19,29 @@ use Rattle.hm_optimality_laws.proofs.TagEdges.{IsStartEdge, start_edge_is, IsEnd
 use Rattle.hm_optimality_laws.proofs.TagEdges as tags
 
 abbrev pub closes_unit : Unit → Bool
-closes_unit (start_tag n omits firm closes) = closes
+closes_unit (start_tag n omits required_after_omission closes) = closes
 closes_unit (tag_close closes) = closes
 closes_unit u = false
 
 abbrev pub begins_end_tag : List Unit → Bool
-begins_end_tag (end_tag n omits loosens ∷ us) = true
+begins_end_tag (end_tag n omits notes_omission ∷ us) = true
 begins_end_tag us = false
 
 -- ---- Only a tag that closes itself leads to where a tag has closed itself
 
-unloosed_open : (at : Where) → is_self_closed at ≡ false → is_self_closed (unloosed at) ≡ false
-unloosed_open outside h = refl
-unloosed_open loose h = refl
-unloosed_open self_closed h = cc
-unloosed_open after_name h = refl
-unloosed_open after_unquoted h = refl
-unloosed_open after_quoted h = refl
-unloosed_open in_unquoted h = refl
-unloosed_open in_double h = refl
-unloosed_open in_single h = refl
-unloosed_open in_section h = refl
+omission_forgotten_open : (at : Where) → is_self_closed at ≡ false → is_self_closed (omission_forgotten at) ≡ false
+omission_forgotten_open outside h = refl
+omission_forgotten_open after_omitted_end h = refl
+omission_forgotten_open self_closed h = cc
+omission_forgotten_open after_name h = refl
+omission_forgotten_open after_unquoted h = refl
+omission_forgotten_open after_quoted h = refl
+omission_forgotten_open in_unquoted h = refl
+omission_forgotten_open in_double h = refl
+omission_forgotten_open in_single h = refl
+omission_forgotten_open in_section h = refl
 
-left_out_open : (loosens : Bool) (s : State) → is_self_closed s.at ≡ false → is_self_closed (after_left_out loosens s).at ≡ false
+left_out_open : (notes_omission : Bool) (s : State) → is_self_closed s.at ≡ false → is_self_closed (after_left_out notes_omission s).at ≡ false
 left_out_open true s h = refl
 left_out_open false s h = h
 
@@ -77,7 +77,7 @@ closed_open in_unquoted e i = one_open _ e refl i
 closed_open in_double e i = one_open _ e refl i
 closed_open in_single e i = one_open _ e refl i
 closed_open outside e i = elim i [ ]
-closed_open loose e i = elim i [ ]
+closed_open after_omitted_end e i = elim i [ ]
 closed_open self_closed e i = elim i [ ]
 closed_open after_name e i = elim i [ ]
 closed_open after_unquoted e i = elim i [ ]
@@ -87,7 +87,7 @@ closed_open in_section e i = elim i [ ]
 -- the state isn't one after a tag that has closed itself
 edge_open : (g : Spelling) (u : Unit) (s : State) (e : Edge) → (is_self_closed s.at ≡ true → begins_end_tag (u ∷ []) ≡ true) → closes_unit u ≡ false → IsIn e (edges_of g u s) → Open e
 edge_open g (fixed b) s e k h i = one_open _ e refl i
-edge_open g (start_tag n omits firm closes) s e k h i = by (start_edge_is n omits firm closes s e i)
+edge_open g (start_tag n omits required_after_omission closes) s e k h i = by (start_edge_is n omits required_after_omission closes s e i)
   where
     here : is_self_closed s.at ≡ false
     here = by_test (is_self_closed s.at) refl
@@ -96,8 +96,8 @@ edge_open g (start_tag n omits firm closes) s e k h i = by (start_edge_is n omit
         by_test true m = let no : false ≡ true = k m in cc
         by_test false m = m
 
-    by : IsStartEdge n omits firm closes s e → Open e
-    by (tags.leaves_out o f is) = subst Open (sym is) (unloosed_open s.at here)
+    by : IsStartEdge n omits required_after_omission closes s e → Open e
+    by (tags.leaves_out o f is) = subst Open (sym is) (omission_forgotten_open s.at here)
     by (tags.writes is) = subst Open (sym is) refl
     by (tags.slashes c is) = absurd (both_ways closes h c)
 edge_open g (tag_name n) s e k h i = one_open _ e refl i
@@ -120,11 +120,11 @@ edge_open g (character kind c next) s e k h i = by_place (is_in_section s.at) i
 edge_open g attribute_end s e k h i = if_open _ _ e (closed_open s.at e) i
 edge_open g (tag_close true) s e k h i = cc
 edge_open g (tag_close false) s e k h i = two_open (edge_to (62 ∷ []) first_state ∷ []) [] e (one_open _ e refl) (λ j. elim j [ ]) i
-edge_open g (end_tag n omits loosens) s e k h i = by (end_edge_is n omits loosens s e i)
+edge_open g (end_tag n omits notes_omission) s e k h i = by (end_edge_is n omits notes_omission s e i)
   where
-    by : IsEndEdge n omits loosens s e → Open e
+    by : IsEndEdge n omits notes_omission s e → Open e
     by (tags.closed c is) = subst Open (sym is) refl
-    by (tags.leaves_out c o is) = subst Open (sym is) (left_out_open loosens s c)
+    by (tags.leaves_out c o is) = subst Open (sym is) (left_out_open notes_omission s c)
     by (tags.writes c is) = subst Open (sym is) refl
 
 -- ---- Units in which an end tag follows each tag that may close itself
@@ -135,14 +135,14 @@ Follows (u ∷ us) = (closes_unit u ≡ true → begins_end_tag us ≡ true) × 
 
 first_end : (u : Unit) (us : List Unit) → begins_end_tag (u ∷ us) ≡ begins_end_tag (u ∷ [])
 first_end (fixed b) us = refl
-first_end (start_tag n omits firm closes) us = refl
+first_end (start_tag n omits required_after_omission closes) us = refl
 first_end (tag_name n) us = refl
 first_end (bare_attribute n) us = refl
 first_end (attribute_name n v) us = refl
 first_end (character kind c next) us = refl
 first_end attribute_end us = refl
 first_end (tag_close closes) us = refl
-first_end (end_tag n omits loosens) us = refl
+first_end (end_tag n omits notes_omission) us = refl
 
 -- a way over them leads elsewhere
 way_open : (g : Spelling) (us : List Unit) (s m : State) (b : List ℕ) → Follows us → (is_self_closed s.at ≡ true → begins_end_tag us ≡ true) → WayTo (edges_of g) us s b m → is_self_closed m.at ≡ false

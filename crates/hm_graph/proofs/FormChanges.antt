@@ -8,7 +8,7 @@ use Rattle.hm_graph.specs.Forms.{AreNeeds, IsChange, IsFew, IsFormChange, by_cha
 use Rattle.hm_graph.specs.declared.forms.Change.{Change}
 use Rattle.hm_graph_laws.specs.Edges.{edge_length}
 use Rattle.hm_graph.specs.EntityFacts.{is_absent, is_costly_need}
-use Rattle.hm_graph_laws.specs.States.{State, Where, outside, loose, self_closed, after_name, after_unquoted, after_quoted, in_unquoted, in_double, in_single, in_section, same_where}
+use Rattle.hm_graph_laws.specs.States.{State, Where, outside, after_omitted_end, self_closed, after_name, after_unquoted, after_quoted, in_unquoted, in_double, in_single, in_section, same_where}
 use Rattle.hm_graph_laws.specs.Units.{Unit, fixed, start_tag, tag_name, bare_attribute, attribute_name, character, attribute_end, tag_close, end_tag, next_of}
 use Rattle.hm_graph_laws.specs.Forms.{added, covers, gains, gains_after, is_costly, saved, stands}
 use Rattle.hm_optimality_laws.specs.Dominated.{is_form, is_nothing}
@@ -237,7 +237,7 @@ where_serves t v from to false costly b place wide gain is_a is_b = place ∙ wi
 
 pub form_changes : (t : List Entry) (v : List ℕ) (from to : Where) → IsFormChange t v from to (form_change (needs_of t v) from to)
 form_changes t v outside to = not_both (is_form to)
-form_changes t v loose to = not_both (is_form to)
+form_changes t v after_omitted_end to = not_both (is_form to)
 form_changes t v self_closed to = not_both (is_form to)
 form_changes t v after_name to = not_both (is_form to)
 form_changes t v after_unquoted to = not_both (is_form to)
@@ -247,7 +247,7 @@ form_changes t v in_unquoted in_double = serves_by t v in_unquoted in_double 1 _
 form_changes t v in_unquoted in_single = serves_by t v in_unquoted in_single 1 _ _ refl (unquoted_over_single t v).covers (single_over_unquoted t v).gains refl refl
 form_changes t v in_unquoted in_unquoted = refl
 form_changes t v in_unquoted outside = refl
-form_changes t v in_unquoted loose = refl
+form_changes t v in_unquoted after_omitted_end = refl
 form_changes t v in_unquoted self_closed = refl
 form_changes t v in_unquoted after_name = refl
 form_changes t v in_unquoted after_unquoted = refl
@@ -257,7 +257,7 @@ form_changes t v in_double in_unquoted = where_serves t v in_double in_unquoted 
 form_changes t v in_double in_single = where_serves t v in_double in_single _ _ _ refl (double_over_single t v).covers (single_over_double t v).gains refl refl
 form_changes t v in_double in_double = refl
 form_changes t v in_double outside = refl
-form_changes t v in_double loose = refl
+form_changes t v in_double after_omitted_end = refl
 form_changes t v in_double self_closed = refl
 form_changes t v in_double after_name = refl
 form_changes t v in_double after_unquoted = refl
@@ -267,7 +267,7 @@ form_changes t v in_single in_unquoted = where_serves t v in_single in_unquoted 
 form_changes t v in_single in_double = where_serves t v in_single in_double _ _ _ refl (single_over_double t v).covers (double_over_single t v).gains refl refl
 form_changes t v in_single in_single = refl
 form_changes t v in_single outside = refl
-form_changes t v in_single loose = refl
+form_changes t v in_single after_omitted_end = refl
 form_changes t v in_single self_closed = refl
 form_changes t v in_single after_name = refl
 form_changes t v in_single after_unquoted = refl
@@ -288,7 +288,7 @@ by_form less t v from to m n (Some x) (place, (a, b)) = rw (place, a, b) refl
 -- with nothing pending
 pub changes_by : (t : List Entry) (unit : Unit) (needs : Needs) (from to : State) → AreNeeds t unit (Some needs) → is_nothing from.pending ≡ true → is_nothing to.pending ≡ true → IsChange t unit from to (form_change needs from.at to.at)
 changes_by t (fixed b) needs from to h p q = absurd h
-changes_by t (start_tag n omits firm closes) needs from to h p q = absurd h
+changes_by t (start_tag n omits required_after_omission closes) needs from to h p q = absurd h
 changes_by t (tag_name n) needs from to h p q = absurd h
 changes_by t (bare_attribute n) needs from to h p q = absurd h
 changes_by t (attribute_name n v) needs from to h p q = λ less e f is_from is_to.
@@ -298,12 +298,12 @@ changes_by t (attribute_name n v) needs from to h p q = λ less e f is_from is_t
 changes_by t (character kind c next) needs from to h p q = absurd h
 changes_by t attribute_end needs from to h p q = absurd h
 changes_by t (tag_close closes) needs from to h p q = absurd h
-changes_by t (end_tag n omits loosens) needs from to h p q = absurd h
+changes_by t (end_tag n omits notes_omission) needs from to h p q = absurd h
 
 -- something is pending
 pub changes_none : (t : List Entry) (unit : Unit) (from to : State) → is_nothing from.pending && is_nothing to.pending ≡ false → IsChange t unit from to None
 changes_none t (fixed b) from to h = λ less e f is_from is_to. refl
-changes_none t (start_tag n omits firm closes) from to h = λ less e f is_from is_to. refl
+changes_none t (start_tag n omits required_after_omission closes) from to h = λ less e f is_from is_to. refl
 changes_none t (tag_name n) from to h = λ less e f is_from is_to. refl
 changes_none t (bare_attribute n) from to h = λ less e f is_from is_to. refl
 changes_none t (attribute_name n v) from to h = λ less e f is_from is_to.
@@ -318,19 +318,19 @@ changes_none t (attribute_name n v) from to h = λ less e f is_from is_to.
 changes_none t (character kind c next) from to h = λ less e f is_from is_to. refl
 changes_none t attribute_end from to h = λ less e f is_from is_to. refl
 changes_none t (tag_close closes) from to h = λ less e f is_from is_to. refl
-changes_none t (end_tag n omits loosens) from to h = λ less e f is_from is_to. refl
+changes_none t (end_tag n omits notes_omission) from to h = λ less e f is_from is_to. refl
 
 -- the unit opens no value
 pub changes_nothing : (t : List Entry) (unit : Unit) (from to : State) → AreNeeds t unit None → IsChange t unit from to None
 changes_nothing t (fixed b) from to h = λ less e f is_from is_to. refl
-changes_nothing t (start_tag n omits firm closes) from to h = λ less e f is_from is_to. refl
+changes_nothing t (start_tag n omits required_after_omission closes) from to h = λ less e f is_from is_to. refl
 changes_nothing t (tag_name n) from to h = λ less e f is_from is_to. refl
 changes_nothing t (bare_attribute n) from to h = λ less e f is_from is_to. refl
 changes_nothing t (attribute_name n v) from to h = absurd h
 changes_nothing t (character kind c next) from to h = λ less e f is_from is_to. refl
 changes_nothing t attribute_end from to h = λ less e f is_from is_to. refl
 changes_nothing t (tag_close closes) from to h = λ less e f is_from is_to. refl
-changes_nothing t (end_tag n omits loosens) from to h = λ less e f is_from is_to. refl
+changes_nothing t (end_tag n omits notes_omission) from to h = λ less e f is_from is_to. refl
 
 few_where : (can_replace : Bool) (costly : Bool) → IfSome (change_where can_replace (saved costly)) IsFew
 few_where true true = (omega arith, omega arith)
@@ -343,7 +343,7 @@ few_quoted false = (omega arith, omega arith)
 
 pub few_bytes : (n : Needs) (from to : Where) → IfSome (form_change n from to) IsFew
 few_bytes n outside to = tt
-few_bytes n loose to = tt
+few_bytes n after_omitted_end to = tt
 few_bytes n self_closed to = tt
 few_bytes n after_name to = tt
 few_bytes n after_unquoted to = tt
@@ -353,7 +353,7 @@ few_bytes n in_unquoted in_double = few_quoted (is_costly_need n.single || is_co
 few_bytes n in_unquoted in_single = few_quoted (is_costly_need n.double || is_costly_need n.other)
 few_bytes n in_unquoted in_unquoted = tt
 few_bytes n in_unquoted outside = tt
-few_bytes n in_unquoted loose = tt
+few_bytes n in_unquoted after_omitted_end = tt
 few_bytes n in_unquoted self_closed = tt
 few_bytes n in_unquoted after_name = tt
 few_bytes n in_unquoted after_unquoted = tt
@@ -363,7 +363,7 @@ few_bytes n in_double in_unquoted = few_where (is_absent n.single && is_absent n
 few_bytes n in_double in_single = few_where (is_absent n.single) (is_costly_need n.double)
 few_bytes n in_double in_double = tt
 few_bytes n in_double outside = tt
-few_bytes n in_double loose = tt
+few_bytes n in_double after_omitted_end = tt
 few_bytes n in_double self_closed = tt
 few_bytes n in_double after_name = tt
 few_bytes n in_double after_unquoted = tt
@@ -373,7 +373,7 @@ few_bytes n in_single in_unquoted = few_where (is_absent n.double && is_absent n
 few_bytes n in_single in_double = few_where (is_absent n.double) (is_costly_need n.single)
 few_bytes n in_single in_single = tt
 few_bytes n in_single outside = tt
-few_bytes n in_single loose = tt
+few_bytes n in_single after_omitted_end = tt
 few_bytes n in_single self_closed = tt
 few_bytes n in_single after_name = tt
 few_bytes n in_single after_unquoted = tt

@@ -103,9 +103,14 @@ fn hint_place(list: u32, unit: &Unit) -> usize {
         Unit::StartTag {
             len,
             omits,
-            firm,
+            required_after_omission,
             closes,
-        } => { len ^ 2304 ^ u32::from(omits) << 5 ^ u32::from(firm) << 6 ^ u32::from(closes) << 7 }
+        } => {
+            len ^ 2304
+                ^ u32::from(omits) << 5
+                ^ u32::from(required_after_omission) << 6
+                ^ u32::from(closes) << 7
+        }
         Unit::TagName { len } => len ^ 2560,
         Unit::BareAttribute { len } => len ^ 2816,
         Unit::AttributeName { len, needs } => len ^ 3072 ^ needs_number(needs) << 4,
@@ -114,8 +119,8 @@ fn hint_place(list: u32, unit: &Unit) -> usize {
         Unit::EndTag {
             len,
             omits,
-            loosens,
-        } => len ^ 3584 ^ u32::from(omits) << 5 ^ u32::from(loosens) << 6,
+            notes_omission,
+        } => len ^ 3584 ^ u32::from(omits) << 5 ^ u32::from(notes_omission) << 6,
     };
     (own ^ list.wrapping_mul(0x9E37_79B1) >> 18) as usize % HINTS
 }

@@ -48,31 +48,40 @@ pub(crate) fn is_kind(one: TextKind, other: TextKind) -> bool
 
 /// Whether a unit is a start tag without attributes with all of these fields.
 #[inline(always)]
-fn is_start_tag(one: &Unit, len: u32, omits: bool, firm: bool, closes: bool) -> bool
-    ensures { IsTrue result → one.now ≡ StartTag len omits firm closes }
+fn is_start_tag(
+    one: &Unit,
+    len: u32,
+    omits: bool,
+    required_after_omission: bool,
+    closes: bool,
+) -> bool
+    ensures { IsTrue result → one.now ≡ StartTag len omits required_after_omission closes }
 {
     match *one {
         Unit::StartTag {
             len: own,
             omits: is_omitted,
-            firm: is_firm,
+            required_after_omission: is_required_after_omission,
             closes: is_closed,
-        } => own == len && is_omitted == omits && is_firm == firm && is_closed == closes,
+        } => own == len
+            && is_omitted == omits
+            && is_required_after_omission == required_after_omission
+            && is_closed == closes,
         _ => false,
     }
 }
 
 /// Whether a unit is an end tag with all of these fields.
 #[inline(always)]
-fn is_end_tag(one: &Unit, len: u32, omits: bool, loosens: bool) -> bool
-    ensures { IsTrue result → one.now ≡ EndTag len omits loosens }
+fn is_end_tag(one: &Unit, len: u32, omits: bool, notes_omission: bool) -> bool
+    ensures { IsTrue result → one.now ≡ EndTag len omits notes_omission }
 {
     match *one {
         Unit::EndTag {
             len: own,
             omits: is_omitted,
-            loosens: is_loose,
-        } => own == len && is_omitted == omits && is_loose == loosens,
+            notes_omission: is_after_omitted_end,
+        } => own == len && is_omitted == omits && is_after_omitted_end == notes_omission,
         _ => false,
     }
 }
@@ -172,14 +181,14 @@ fn is_unit(one: &Unit, other: &Unit) -> bool
         Unit::StartTag {
             len,
             omits,
-            firm,
+            required_after_omission,
             closes,
-        } => is_start_tag(one, len, omits, firm, closes),
+        } => is_start_tag(one, len, omits, required_after_omission, closes),
         Unit::EndTag {
             len,
             omits,
-            loosens,
-        } => is_end_tag(one, len, omits, loosens),
+            notes_omission,
+        } => is_end_tag(one, len, omits, notes_omission),
         Unit::TagName { len } => is_tag_name(one, len),
         Unit::AttributeName { len, needs } => is_attribute_name(one, len, needs),
         Unit::TagClose { closes } => is_tag_close(one, closes),

@@ -7,7 +7,7 @@ use Rattle.hm_graph_laws.specs.AttributeEdges.{gap_at, is_after_unquoted}
 use Rattle.hm_refs.specs.Tables.{first, later}
 use Rattle.hm_spelling_spec.specs.Characters.{is_value}
 use Rattle.hm_graph_laws.proofs.ValueEnds.{Closes}
-use Rattle.hm_graph_laws.specs.States.{Where, outside, loose, self_closed, after_name, after_quoted, after_unquoted, in_unquoted, in_double, in_single, in_section, value_spot}
+use Rattle.hm_graph_laws.specs.States.{Where, outside, after_omitted_end, self_closed, after_name, after_quoted, after_unquoted, in_unquoted, in_double, in_single, in_section, value_spot}
 
 -- the place after an attribute of this form
 abbrev pub after_form : Quoting → Where
@@ -31,7 +31,7 @@ gap_parts false single = refl
 -- a place has the spot of a value
 pub spot_value : (at : Where) → is_value (value_spot at) ≡ true
 spot_value outside = refl
-spot_value loose = refl
+spot_value after_omitted_end = refl
 spot_value self_closed = refl
 spot_value after_name = refl
 spot_value after_unquoted = refl

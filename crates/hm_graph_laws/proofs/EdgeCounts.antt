@@ -11,7 +11,7 @@ use Rattle.hm_graph_laws.specs.EdgeLaws.{StatesHaveFewEdges}
 use Rattle.hm_graph_laws.specs.States.{Pending, State, Where, first_state, in_unquoted, nothing, self_closed, state, value_spot}
 use Rattle.hm_graph_laws.specs.States as places
 use Rattle.hm_graph_laws.specs.Steps.{may_end, run, step}
-use Rattle.hm_graph_laws.specs.TagEdges.{after_left_out, end_bytes, end_edges, is_loose, is_self_closed, start_bytes, start_edges, unloosed}
+use Rattle.hm_graph_laws.specs.TagEdges.{after_left_out, end_bytes, end_edges, is_after_omitted_end, is_self_closed, start_bytes, start_edges, omission_forgotten}
 use Rattle.hm_graph_laws.specs.Units.{TextKind, fixed, start_tag, tag_name, bare_attribute, attribute_name, character, attribute_end, tag_close, end_tag}
 use Rattle.hm_refs.specs.Names.{Entry}
 use Rattle.hm_refs.specs.Numbers.{best_number}
@@ -142,7 +142,7 @@ character_few t k rules kind c next s = either_few (is_in_section s.at) _ _ 71
 
 closed_few : (at : Where) → length (closed_at at) ≤ 71
 closed_few places.outside = omega arith
-closed_few places.loose = omega arith
+closed_few places.after_omitted_end = omega arith
 closed_few places.self_closed = omega arith
 closed_few places.after_name = omega arith
 closed_few places.after_unquoted = omega arith
@@ -161,8 +161,8 @@ one_after : (b : Bool) (d e : Edge) → length (d ∷ cond b (e ∷ []) []) ≤ 
 one_after true d e = omega arith
 one_after false d e = omega arith
 
-start_few : (n : List ℕ) (omits firm closes : Bool) (s : State) → length (start_edges n omits firm closes s) ≤ 3
-start_few n omits firm closes s = one_before (omits && not (firm && is_loose s.at)) (edge_to [] (state (unloosed s.at) s.pending)) _ 2 (one_after closes (edge_to (start_bytes n) first_state) (edge (codes "<" ++ (n ++ codes "/>")) self_closed nothing))
+start_few : (n : List ℕ) (omits required_after_omission closes : Bool) (s : State) → length (start_edges n omits required_after_omission closes s) ≤ 3
+start_few n omits required_after_omission closes s = one_before (omits && not (required_after_omission && is_after_omitted_end s.at)) (edge_to [] (state (omission_forgotten s.at) s.pending)) _ 2 (one_after closes (edge_to (start_bytes n) first_state) (edge (codes "<" ++ (n ++ codes "/>")) self_closed nothing))
 
 opening_few : (tight unquote : Bool) (n : List ℕ) (s : State) → length (opening_edges tight unquote n s) ≤ 3
 opening_few tight unquote n s = one_before unquote (edge (gap_at tight s.at ++ (n ++ codes "=")) in_unquoted nothing) _ 2 (omega arith)
@@ -170,16 +170,16 @@ opening_few tight unquote n s = one_before unquote (edge (gap_at tight s.at ++ (
 close_few : (closes : Bool) (s : State) → length (close_edges closes s) ≤ 2
 close_few closes s = one_after closes (edge_to (62 ∷ []) first_state) (edge (cond (is_after_unquoted s.at) (codes " />") (codes "/>")) self_closed nothing)
 
-end_few : (n : List ℕ) (omits loosens : Bool) (s : State) → length (end_edges n omits loosens s) ≤ 2
-end_few n omits loosens s = either_few (is_self_closed s.at) _ _ 2 (omega arith) (one_before omits (edge_to [] (after_left_out loosens s)) (edge_to (end_bytes n) first_state ∷ []) 1 (omega arith))
+end_few : (n : List ℕ) (omits notes_omission : Bool) (s : State) → length (end_edges n omits notes_omission s) ≤ 2
+end_few n omits notes_omission s = either_few (is_self_closed s.at) _ _ 2 (omega arith) (one_before omits (edge_to [] (after_left_out notes_omission s)) (edge_to (end_bytes n) first_state ∷ []) 1 (omega arith))
 
 pub states_have_few_edges : StatesHaveFewEdges
 states_have_few_edges g k (fixed b) s = omega arith
-states_have_few_edges g k (start_tag n omits firm closes) s = omega (arith, start_few n omits firm closes s)
+states_have_few_edges g k (start_tag n omits required_after_omission closes) s = omega (arith, start_few n omits required_after_omission closes s)
 states_have_few_edges g k (tag_name n) s = omega arith
 states_have_few_edges g k (bare_attribute n) s = omega arith
 states_have_few_edges g k (attribute_name n v) s = omega (arith, opening_few g.rules.tight g.rules.unquote n s)
 states_have_few_edges g k (character kind c next) s = character_few g.table k (character_rules g) kind c next s
 states_have_few_edges g k attribute_end s = some_few (may_end g.table (value_spot s.at) s.pending) (closed_at s.at) 71 (closed_few s.at)
 states_have_few_edges g k (tag_close closes) s = omega (arith, close_few closes s)
-states_have_few_edges g k (end_tag n omits loosens) s = omega (arith, end_few n omits loosens s)
+states_have_few_edges g k (end_tag n omits notes_omission) s = omega (arith, end_few n omits notes_omission s)

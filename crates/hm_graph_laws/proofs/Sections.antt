@@ -5,7 +5,7 @@ use Rattle.hm_refs.proofs.Bools.{eq_of}
 use Rattle.hm_spelling_spec.specs.Characters.{Spot, text, rcdata, foreign, unquoted, double, single, is_foreign, is_value}
 use Rattle.hm_graph_laws.specs.CharacterEdges.{closes_section, in_section_after, is_in_section, is_outside}
 use Rattle.hm_graph_laws.specs.CharacterLaws.{is_in_value, stands_at}
-use Rattle.hm_graph_laws.specs.States.{Where, outside, loose, self_closed, after_name, after_unquoted, after_quoted, in_unquoted, in_double, in_single, in_section, Pending, nothing, less_than, hash, hash_x, decimal, hexadecimal, ampersand, named, half, one_bracket, two_brackets}
+use Rattle.hm_graph_laws.specs.States.{Where, outside, after_omitted_end, self_closed, after_name, after_unquoted, after_quoted, in_unquoted, in_double, in_single, in_section, Pending, nothing, less_than, hash, hash_x, decimal, hexadecimal, ampersand, named, half, one_bracket, two_brackets}
 use Rattle.hm_graph_laws.specs.Units.{TextKind, in_text, in_rcdata, in_foreign, in_value}
 
 -- the brackets that are pending
@@ -82,7 +82,7 @@ unended two_brackets = refl
 
 pub outside_at : (at : Where) → is_outside at ≡ true → at ≡ outside
 outside_at outside h = refl
-outside_at loose h = absurd (cc)
+outside_at after_omitted_end h = absurd (cc)
 outside_at self_closed h = absurd (cc)
 outside_at after_name h = absurd (cc)
 outside_at after_unquoted h = absurd (cc)
@@ -94,7 +94,7 @@ outside_at in_section h = absurd (cc)
 
 value_open : (at : Where) → is_in_value at ≡ true → is_in_section at ≡ false
 value_open outside h = absurd (cc)
-value_open loose h = absurd (cc)
+value_open after_omitted_end h = absurd (cc)
 value_open self_closed h = absurd (cc)
 value_open after_name h = absurd (cc)
 value_open after_unquoted h = absurd (cc)

@@ -2,7 +2,7 @@
 use Rattle.std.proofs.Common.{◌≡◌, ℕ, List, Option, Some, None, true, refl, ap, ap₂, bytes_eq}
 use Rattle.std.proofs.lemmas.Bool.{and_parts}
 use Rattle.std.proofs.lemmas.Slice.Eq.{bytes_eq-Decides}
-use Rattle.hm_graph_laws.specs.States.{Where, outside, loose, self_closed, after_name, after_unquoted, after_quoted, in_unquoted, in_double, in_single, in_section, Pending, nothing, less_than, hash, hash_x, decimal, hexadecimal, ampersand, named, half, one_bracket, two_brackets, State, state, same_where, same_left, same_pending, same_state}
+use Rattle.hm_graph_laws.specs.States.{Where, outside, after_omitted_end, self_closed, after_name, after_unquoted, after_quoted, in_unquoted, in_double, in_single, in_section, Pending, nothing, less_than, hash, hash_x, decimal, hexadecimal, ampersand, named, half, one_bracket, two_brackets, State, state, same_where, same_left, same_pending, same_state}
 
 bytes_is : (a b : List ℕ) → bytes_eq a b ≡ true → a ≡ b
 bytes_is a b e = (bytes_eq-Decides a b).0 e
@@ -22,7 +22,7 @@ left_self (Some a) = bytes_self a
 
 where_self : (a : Where) → same_where a a ≡ true
 where_self outside = refl
-where_self loose = refl
+where_self after_omitted_end = refl
 where_self self_closed = refl
 where_self after_name = refl
 where_self after_unquoted = refl
@@ -34,7 +34,7 @@ where_self in_section = refl
 
 where_is : (a b : Where) → same_where a b ≡ true → a ≡ b
 where_is outside outside e = refl
-where_is outside loose e = absurd (cc)
+where_is outside after_omitted_end e = absurd (cc)
 where_is outside self_closed e = absurd (cc)
 where_is outside after_name e = absurd (cc)
 where_is outside after_unquoted e = absurd (cc)
@@ -43,18 +43,18 @@ where_is outside in_unquoted e = absurd (cc)
 where_is outside in_double e = absurd (cc)
 where_is outside in_single e = absurd (cc)
 where_is outside in_section e = absurd (cc)
-where_is loose outside e = absurd (cc)
-where_is loose loose e = refl
-where_is loose self_closed e = absurd (cc)
-where_is loose after_name e = absurd (cc)
-where_is loose after_unquoted e = absurd (cc)
-where_is loose after_quoted e = absurd (cc)
-where_is loose in_unquoted e = absurd (cc)
-where_is loose in_double e = absurd (cc)
-where_is loose in_single e = absurd (cc)
-where_is loose in_section e = absurd (cc)
+where_is after_omitted_end outside e = absurd (cc)
+where_is after_omitted_end after_omitted_end e = refl
+where_is after_omitted_end self_closed e = absurd (cc)
+where_is after_omitted_end after_name e = absurd (cc)
+where_is after_omitted_end after_unquoted e = absurd (cc)
+where_is after_omitted_end after_quoted e = absurd (cc)
+where_is after_omitted_end in_unquoted e = absurd (cc)
+where_is after_omitted_end in_double e = absurd (cc)
+where_is after_omitted_end in_single e = absurd (cc)
+where_is after_omitted_end in_section e = absurd (cc)
 where_is self_closed outside e = absurd (cc)
-where_is self_closed loose e = absurd (cc)
+where_is self_closed after_omitted_end e = absurd (cc)
 where_is self_closed self_closed e = refl
 where_is self_closed after_name e = absurd (cc)
 where_is self_closed after_unquoted e = absurd (cc)
@@ -64,7 +64,7 @@ where_is self_closed in_double e = absurd (cc)
 where_is self_closed in_single e = absurd (cc)
 where_is self_closed in_section e = absurd (cc)
 where_is after_name outside e = absurd (cc)
-where_is after_name loose e = absurd (cc)
+where_is after_name after_omitted_end e = absurd (cc)
 where_is after_name self_closed e = absurd (cc)
 where_is after_name after_name e = refl
 where_is after_name after_unquoted e = absurd (cc)
@@ -74,7 +74,7 @@ where_is after_name in_double e = absurd (cc)
 where_is after_name in_single e = absurd (cc)
 where_is after_name in_section e = absurd (cc)
 where_is after_unquoted outside e = absurd (cc)
-where_is after_unquoted loose e = absurd (cc)
+where_is after_unquoted after_omitted_end e = absurd (cc)
 where_is after_unquoted self_closed e = absurd (cc)
 where_is after_unquoted after_name e = absurd (cc)
 where_is after_unquoted after_unquoted e = refl
@@ -84,7 +84,7 @@ where_is after_unquoted in_double e = absurd (cc)
 where_is after_unquoted in_single e = absurd (cc)
 where_is after_unquoted in_section e = absurd (cc)
 where_is after_quoted outside e = absurd (cc)
-where_is after_quoted loose e = absurd (cc)
+where_is after_quoted after_omitted_end e = absurd (cc)
 where_is after_quoted self_closed e = absurd (cc)
 where_is after_quoted after_name e = absurd (cc)
 where_is after_quoted after_unquoted e = absurd (cc)
@@ -94,7 +94,7 @@ where_is after_quoted in_double e = absurd (cc)
 where_is after_quoted in_single e = absurd (cc)
 where_is after_quoted in_section e = absurd (cc)
 where_is in_unquoted outside e = absurd (cc)
-where_is in_unquoted loose e = absurd (cc)
+where_is in_unquoted after_omitted_end e = absurd (cc)
 where_is in_unquoted self_closed e = absurd (cc)
 where_is in_unquoted after_name e = absurd (cc)
 where_is in_unquoted after_unquoted e = absurd (cc)
@@ -104,7 +104,7 @@ where_is in_unquoted in_double e = absurd (cc)
 where_is in_unquoted in_single e = absurd (cc)
 where_is in_unquoted in_section e = absurd (cc)
 where_is in_double outside e = absurd (cc)
-where_is in_double loose e = absurd (cc)
+where_is in_double after_omitted_end e = absurd (cc)
 where_is in_double self_closed e = absurd (cc)
 where_is in_double after_name e = absurd (cc)
 where_is in_double after_unquoted e = absurd (cc)
@@ -114,7 +114,7 @@ where_is in_double in_double e = refl
 where_is in_double in_single e = absurd (cc)
 where_is in_double in_section e = absurd (cc)
 where_is in_single outside e = absurd (cc)
-where_is in_single loose e = absurd (cc)
+where_is in_single after_omitted_end e = absurd (cc)
 where_is in_single self_closed e = absurd (cc)
 where_is in_single after_name e = absurd (cc)
 where_is in_single after_unquoted e = absurd (cc)
@@ -124,7 +124,7 @@ where_is in_single in_double e = absurd (cc)
 where_is in_single in_single e = refl
 where_is in_single in_section e = absurd (cc)
 where_is in_section outside e = absurd (cc)
-where_is in_section loose e = absurd (cc)
+where_is in_section after_omitted_end e = absurd (cc)
 where_is in_section self_closed e = absurd (cc)
 where_is in_section after_name e = absurd (cc)
 where_is in_section after_unquoted e = absurd (cc)

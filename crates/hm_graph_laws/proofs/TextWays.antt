@@ -9,7 +9,7 @@ use Rattle.hm_spelling_spec.specs.Characters.{AreAllowed, CharacterRules, is_for
 use Rattle.hm_graph_laws.specs.CharacterEdges.{after_half, character_edges, choice, closes_section, in_section_after, is_in_section, is_outside, kept_at, section_edges_by, spot_at}
 use Rattle.hm_graph_laws.specs.CharacterLaws.{SpellingsHaveWays, keeps_at, stands_at}
 use Rattle.hm_graph_laws.specs.Edges.{Edge, edge, edge_to}
-use Rattle.hm_graph_laws.specs.States.{Where, outside, loose, self_closed, after_name, after_unquoted, after_quoted, in_unquoted, in_double, in_single, in_section, Pending, nothing, half, State, first_state, state}
+use Rattle.hm_graph_laws.specs.States.{Where, outside, after_omitted_end, self_closed, after_name, after_unquoted, after_quoted, in_unquoted, in_double, in_single, in_section, Pending, nothing, half, State, first_state, state}
 use Rattle.hm_graph_laws.specs.Steps.{Fits, keeps}
 use Rattle.hm_graph_laws.specs.Units.{TextKind, in_value, in_text, in_rcdata, in_foreign, next_of}
 use Rattle.hm_graph_laws.proofs.CharacterWays.{Way, to_units, choice_in, into_section, opening_in}
@@ -111,7 +111,7 @@ module _ (t : List Entry) (table : IsTable t) (rules : CharacterRules) (kind : T
     where
       no_value : (a : Where) → is_foreign (spot_at in_value a) ≡ true → ⊥
       no_value outside g = cc
-      no_value loose g = cc
+      no_value after_omitted_end g = cc
       no_value self_closed g = cc
       no_value after_name g = cc
       no_value after_unquoted g = cc

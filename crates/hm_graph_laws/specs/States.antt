@@ -4,7 +4,7 @@ use Rattle.hm_spelling_spec.specs.Characters.{Spot, unquoted, double, single}
 
 pub data Where : Type 0 where
   outside : Where  -- outside of tags
-  loose : Where  -- outside of tags, after an end tag of a table's section or of colgroup that was left out
+  after_omitted_end : Where  -- outside of tags, after an end tag of a table's section or of colgroup that was left out
   self_closed : Where  -- after a start tag of SVG with a '/', which stands for the end tag as well
   after_name : Where  -- in a tag, after its name or an attribute without value
   after_unquoted : Where  -- in a tag, after a value without quotes
@@ -50,7 +50,7 @@ value_spot at = double
 
 abbrev pub same_where : Where → Where → Bool
 same_where outside outside = true
-same_where loose loose = true
+same_where after_omitted_end after_omitted_end = true
 same_where self_closed self_closed = true
 same_where after_name after_name = true
 same_where after_unquoted after_unquoted = true

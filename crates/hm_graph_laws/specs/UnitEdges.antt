@@ -11,11 +11,11 @@ use Rattle.hm_graph_laws.specs.Units.{Unit, fixed, start_tag, tag_name, bare_att
 -- the edges of a unit from a state, in their order
 abbrev pub edges_of : Spelling → Unit → State → List Edge
 edges_of g (fixed b) s = fixed_edges b
-edges_of g (start_tag n omits firm closes) s = start_edges n omits firm closes s
+edges_of g (start_tag n omits required_after_omission closes) s = start_edges n omits required_after_omission closes s
 edges_of g (tag_name n) s = name_edges n
 edges_of g (bare_attribute n) s = bare_edges g.rules.tight n s
 edges_of g (attribute_name n v) s = opening_edges g.rules.tight g.rules.unquote n s
 edges_of g (character kind c next) s = character_edges g.table (character_rules g) kind c next s
 edges_of g attribute_end s = closing_edges g.table s
 edges_of g (tag_close closes) s = close_edges closes s
-edges_of g (end_tag n omits loosens) s = end_edges n omits loosens s
+edges_of g (end_tag n omits notes_omission) s = end_edges n omits notes_omission s

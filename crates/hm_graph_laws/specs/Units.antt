@@ -52,25 +52,25 @@ abbrev pub Previous : Type 0
 Previous = Option Event
 
 -- After an end that bars it and whose tag was left out, the start tag isn't left out as well.
-abbrev pub is_firm : Previous → List ℕ → Bool
-is_firm (Some (end m foreign)) n = not foreign && start_tag_required_after m n
-is_firm previous n = false
+abbrev pub is_required_after_omission : Previous → List ℕ → Bool
+is_required_after_omission (Some (end m foreign)) n = not foreign && start_tag_required_after m n
+is_required_after_omission previous n = false
 
 -- an element of SVG that ends at once
 abbrev pub may_close_itself : Bool → List Event → Bool
 may_close_itself foreign w = foreign && begins_end w
 
 abbrev pub start_units : SpellRules → Previous → List ℕ → Bool → List Attribute → List Event → List Unit
-start_units r previous n foreign [] w = start_tag n (r.omit && (not foreign && start_falls r.frame n w)) (is_firm previous n) (may_close_itself foreign w) ∷ []
+start_units r previous n foreign [] w = start_tag n (r.omit && (not foreign && start_falls r.frame n w)) (is_required_after_omission previous n) (may_close_itself foreign w) ∷ []
 start_units r previous n foreign (a ∷ attributes) w = tag_name n ∷ (attribute_units (a ∷ attributes) ++ tag_close (may_close_itself foreign w) ∷ [])
 
 -- Where the end tag of a section of a table or of colgroup is left out, the state records it.
-abbrev pub is_loose_end : List ℕ → Bool
-is_loose_end n = is_section n || bytes_eq n colgroup
+abbrev pub is_omission_noted : List ℕ → Bool
+is_omission_noted n = is_section n || bytes_eq n colgroup
 
 -- a void element has no end tag
 abbrev pub end_units : SpellRules → List ℕ → Bool → List Element → List Event → List Unit
-end_units r n foreign path w = if not foreign && is_void n then [] else end_tag n (may_omit_end r n foreign path w) (is_loose_end n) ∷ []
+end_units r n foreign path w = if not foreign && is_void n then [] else end_tag n (may_omit_end r n foreign path w) (is_omission_noted n) ∷ []
 
 -- ---- Texts
 

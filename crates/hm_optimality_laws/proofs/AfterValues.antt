@@ -4,7 +4,7 @@ use Rattle.hm_graph_laws.proofs.CharacterWays.{in_map, mapped}
 use Rattle.hm_graph_laws.specs.AttributeEdges.{gap_at}
 use Rattle.hm_graph_laws.specs.CharacterEdges.{Choice, choices, kept_at}
 use Rattle.hm_graph_laws.specs.Edges.{Edge, edge, edge_length, edge_to}
-use Rattle.hm_graph_laws.specs.States.{Where, State, Pending, after_quoted, after_unquoted, first_state, in_double, in_single, in_unquoted, loose, nothing, self_closed, state}
+use Rattle.hm_graph_laws.specs.States.{Where, State, Pending, after_quoted, after_unquoted, first_state, in_double, in_single, in_unquoted, after_omitted_end, nothing, self_closed, state}
 use Rattle.hm_graph_laws.specs.Steps.{may_end}
 use Rattle.hm_graph_laws.specs.TagEdges.{after_left_out, end_bytes}
 use Rattle.hm_graph_laws.specs.UnitEdges.{edges_of}
@@ -45,8 +45,8 @@ kept_near at near more ks e i =
 choices_near : (at near : Where) (more : ℕ) (ks : List Choice) → AreBettered (IsNear at near more) (map (kept_at at) ks ++ []) (map (kept_at near) ks ++ [])
 choices_near at near more ks = join_bettered (IsNear at near more) (map (kept_at at) ks) (map (kept_at near) ks) [] [] (kept_near at near more ks) (none_bettered (IsNear at near more) [])
 
-left_out_near : (at near : Where) (more : ℕ) (loosens : Bool) (p : Pending) → AreBettered (IsNear at near more) (edge_to [] (after_left_out loosens (state at p)) ∷ []) (edge_to [] (after_left_out loosens (state near p)) ∷ [])
-left_out_near at near more true p = same_near at near more (edge_to [] (state loose nothing) ∷ [])
+left_out_near : (at near : Where) (more : ℕ) (notes_omission : Bool) (p : Pending) → AreBettered (IsNear at near more) (edge_to [] (after_left_out notes_omission (state at p)) ∷ []) (edge_to [] (after_left_out notes_omission (state near p)) ∷ [])
+left_out_near at near more true p = same_near at near more (edge_to [] (state after_omitted_end nothing) ∷ [])
 left_out_near at near more false p = in_place at near more p
 
 start_near : (at near : Where) (more : ℕ) (omits : Bool) (es : List Edge) (p : Pending) → AreBettered (IsNear at near more) (cond omits (edge_to [] (state at p) ∷ []) [] ++ es) (cond omits (edge_to [] (state near p) ∷ []) [] ++ es)
@@ -55,11 +55,11 @@ start_near at near more omits es p =
     (test_bettered (IsNear at near more) omits (edge_to [] (state at p) ∷ []) (edge_to [] (state near p) ∷ []) [] [] (in_place at near more p) (none_bettered (IsNear at near more) []))
     (same_near at near more es)
 
-end_near : (at near : Where) (more : ℕ) (omits loosens : Bool) (es : List Edge) (p : Pending)
-    → AreBettered (IsNear at near more) (cond omits (edge_to [] (after_left_out loosens (state at p)) ∷ []) [] ++ es) (cond omits (edge_to [] (after_left_out loosens (state near p)) ∷ []) [] ++ es)
-end_near at near more omits loosens es p =
-    join_bettered (IsNear at near more) (cond omits (edge_to [] (after_left_out loosens (state at p)) ∷ []) []) (cond omits (edge_to [] (after_left_out loosens (state near p)) ∷ []) []) es es
-    (test_bettered (IsNear at near more) omits (edge_to [] (after_left_out loosens (state at p)) ∷ []) (edge_to [] (after_left_out loosens (state near p)) ∷ []) [] [] (left_out_near at near more loosens p) (none_bettered (IsNear at near more) []))
+end_near : (at near : Where) (more : ℕ) (omits notes_omission : Bool) (es : List Edge) (p : Pending)
+    → AreBettered (IsNear at near more) (cond omits (edge_to [] (after_left_out notes_omission (state at p)) ∷ []) [] ++ es) (cond omits (edge_to [] (after_left_out notes_omission (state near p)) ∷ []) [] ++ es)
+end_near at near more omits notes_omission es p =
+    join_bettered (IsNear at near more) (cond omits (edge_to [] (after_left_out notes_omission (state at p)) ∷ []) []) (cond omits (edge_to [] (after_left_out notes_omission (state near p)) ∷ []) []) es es
+    (test_bettered (IsNear at near more) omits (edge_to [] (after_left_out notes_omission (state at p)) ∷ []) (edge_to [] (after_left_out notes_omission (state near p)) ∷ []) [] [] (left_out_near at near more notes_omission p) (none_bettered (IsNear at near more) []))
     (same_near at near more es)
 
 -- the gaps before an attribute
@@ -105,7 +105,7 @@ gaps_unquoted false n = omega arith
 
 pub quoted_near : (g : Spelling) → AreNear g after_unquoted after_quoted 0
 quoted_near g (fixed b) p = same_near after_unquoted after_quoted 0 (edges_of g (fixed b) (state after_quoted p))
-quoted_near g (start_tag n omits firm closes) p = start_near after_unquoted after_quoted 0 (omits && not (firm && false)) _ p
+quoted_near g (start_tag n omits required_after_omission closes) p = start_near after_unquoted after_quoted 0 (omits && not (required_after_omission && false)) _ p
 quoted_near g (tag_name n) p = same_near after_unquoted after_quoted 0 (edges_of g (tag_name n) (state after_quoted p))
 quoted_near g (bare_attribute n) p = to_same after_unquoted after_quoted 0 _ _ _ (gaps_quoted g.rules.tight n)
 quoted_near g (attribute_name n v) p = opening_near after_unquoted after_quoted 0 g.rules.tight g.rules.unquote n (gaps_quoted g.rules.tight)
@@ -115,11 +115,11 @@ quoted_near g (character in_foreign c next) p = choices_near after_unquoted afte
 quoted_near g (character in_value c next) p = choices_near after_unquoted after_quoted 0 (choices g.table (character_rules g) double c next p)
 quoted_near g attribute_end p = closing_near after_unquoted after_quoted 0 (may_end g.table double p) (may_end g.table double p)
 quoted_near g (tag_close closes) p = close_near after_unquoted after_quoted 0 closes (codes " />") (codes "/>") (omega arith)
-quoted_near g (end_tag n omits loosens) p = end_near after_unquoted after_quoted 0 omits loosens (edge_to (end_bytes n) first_state ∷ []) p
+quoted_near g (end_tag n omits notes_omission) p = end_near after_unquoted after_quoted 0 omits notes_omission (edge_to (end_bytes n) first_state ∷ []) p
 
 pub unquoted_near : (g : Spelling) → AreNear g after_quoted after_unquoted 1
 unquoted_near g (fixed b) p = same_near after_quoted after_unquoted 1 (edges_of g (fixed b) (state after_quoted p))
-unquoted_near g (start_tag n omits firm closes) p = start_near after_quoted after_unquoted 1 (omits && not (firm && false)) _ p
+unquoted_near g (start_tag n omits required_after_omission closes) p = start_near after_quoted after_unquoted 1 (omits && not (required_after_omission && false)) _ p
 unquoted_near g (tag_name n) p = same_near after_quoted after_unquoted 1 (edges_of g (tag_name n) (state after_quoted p))
 unquoted_near g (bare_attribute n) p = to_same after_quoted after_unquoted 1 _ _ _ (gaps_unquoted g.rules.tight n)
 unquoted_near g (attribute_name n v) p = opening_near after_quoted after_unquoted 1 g.rules.tight g.rules.unquote n (gaps_unquoted g.rules.tight)
@@ -129,7 +129,7 @@ unquoted_near g (character in_foreign c next) p = choices_near after_quoted afte
 unquoted_near g (character in_value c next) p = choices_near after_quoted after_unquoted 1 (choices g.table (character_rules g) double c next p)
 unquoted_near g attribute_end p = closing_near after_quoted after_unquoted 1 (may_end g.table double p) (may_end g.table double p)
 unquoted_near g (tag_close closes) p = close_near after_quoted after_unquoted 1 closes (codes "/>") (codes " />") (omega arith)
-unquoted_near g (end_tag n omits loosens) p = end_near after_quoted after_unquoted 1 omits loosens (edge_to (end_bytes n) first_state ∷ []) p
+unquoted_near g (end_tag n omits notes_omission) p = end_near after_quoted after_unquoted 1 omits notes_omission (edge_to (end_bytes n) first_state ∷ []) p
 
 -- ---- Ways
 

@@ -9,10 +9,10 @@ use Rattle.hm_elements.specs.Tables.{holds_text, is_void}
 use Rattle.hm_refs.specs.Names.{Entry}
 use Rattle.hm_spelling_spec.specs.Omission.{bars, end_falls}
 use Rattle.hm_spelling_spec.specs.Spellings.{Before, drops_first_line_feed, end_omitted, is_opening, is_self_closing, left_out_before, opening, other, self_closing, spot_of}
-use Rattle.hm_graph_laws.specs.TagEdges.{is_loose, is_self_closed, unloosed}
-use Rattle.hm_graph_laws.specs.States.{Where, outside, loose, self_closed, Pending, nothing}
+use Rattle.hm_graph_laws.specs.TagEdges.{is_after_omitted_end, is_self_closed, omission_forgotten}
+use Rattle.hm_graph_laws.specs.States.{Where, outside, after_omitted_end, self_closed, Pending, nothing}
 use Rattle.hm_graph_laws.specs.Steps.{Fits}
-use Rattle.hm_graph_laws.specs.Units.{Previous, is_after_start, is_firm, is_loose_end}
+use Rattle.hm_graph_laws.specs.Units.{Previous, is_after_start, is_required_after_omission, is_omission_noted}
 use Rattle.hm_optimality_laws.proofs.Order.{element, EndFits}
 use Rattle.hm_optimality_laws.proofs.Spots.{fits_over, text_spot}
 use Rattle.hm_optimality_laws.proofs.Tables.{bars_nothing, begins_tag, IsOpenName, loose_goes, table_not_void, table_stays, void_plain}
@@ -20,7 +20,7 @@ use Rattle.hm_optimality_laws.proofs.Tables.{bars_nothing, begins_tag, IsOpenNam
 -- where a way (path through the layered graph) may stand before these events
 pub data Place (path : List Element) (w : List Event) (at : Where) : Type 0 where
   at_outside : at ≡ outside → Place path w at
-  at_loose : at ≡ loose → current path ≡ table → begins_tag w ≡ true → Place path w at
+  at_omitted_end : at ≡ after_omitted_end → current path ≡ table → begins_tag w ≡ true → Place path w at
   at_closed : at ≡ self_closed → is_in_svg path ≡ true → begins_end w ≡ true → Place path w at
 
 -- a raw text comes first, or a line feed that isn't read, or a text of title or textarea
@@ -34,7 +34,7 @@ pub record Agrees (t : List Entry) (before : Before) (previous : Previous) (path
   pub calm : is_self_closed at ≡ true → p ≡ nothing
   pub self : is_self_closing before ≡ is_self_closed at
   pub after_start : begins_text w ≡ true → is_opening before ≡ is_after_start previous
-  pub barred : (n : List ℕ) → bars (left_out_before before) n ≡ is_firm previous n && is_loose at
+  pub barred : (n : List ℕ) → bars (left_out_before before) n ≡ is_required_after_omission previous n && is_after_omitted_end at
 
 and_false : (b : Bool) → b && false ≡ false
 and_false true = refl
@@ -59,7 +59,7 @@ fresh t before previous path w o s l = record {
   calm = λ h. refl;
   self = s;
   after_start = λ h. o;
-  barred = λ n. ap (λ x. bars x n) l ∙ sym (and_false (is_firm previous n));
+  barred = λ n. ap (λ x. bars x n) l ∙ sym (and_false (is_required_after_omission previous n));
 }
 
 pub after_text : (t : List Entry) (path : List Element) (w : List Event) (s : List ℕ) (raw : Bool) (at : Where) (p : Pending) → at ≡ outside → Fits t (spot_of path) p → begins_text w ≡ false → Agrees t other (Some (text s raw)) path at p w
@@ -82,23 +82,23 @@ nothing_needed true h = cc
 nothing_needed false h = cc
 
 pub start_left : (t : List Entry) (before : Before) (previous : Previous) (path : List Element) (at : Where) (p : Pending) (n : List ℕ) (attributes : List Attribute) (w : List Event) → IsOpenName n
-    → Agrees t before previous path at p (start n false attributes ∷ w) → Agrees t opening (Some (start n false attributes)) (element n false ∷ path) (unloosed at) p w
+    → Agrees t before previous path at p (start n false attributes ∷ w) → Agrees t opening (Some (start n false attributes)) (element n false ∷ path) (omission_forgotten at) p w
 start_left t before previous path at p n attributes w o a =
-    let here = unloosed_is a.place in
+    let here = omission_forgotten_is a.place in
     record {
       place = at_outside here;
       fits = moved t path (element n false ∷ path) p a.fits;
       quiet = λ h. absurd (nothing_needed (begins_text w) (rw (feed_is n path, o.no_text, o.no_feed) at h));
-      calm = λ h. absurd (not_closed (unloosed at) here h);
+      calm = λ h. absurd (not_closed (omission_forgotten at) here h);
       self = rw here refl;
       after_start = λ h. refl;
       barred = λ m. refl;
     }
   where
-    unloosed_is : Place path (start n false attributes ∷ w) at → unloosed at ≡ outside
-    unloosed_is (at_outside e) = ap unloosed e
-    unloosed_is (at_loose e k b) = ap unloosed e
-    unloosed_is (at_closed e k b) = absurd (cc)
+    omission_forgotten_is : Place path (start n false attributes ∷ w) at → omission_forgotten at ≡ outside
+    omission_forgotten_is (at_outside e) = ap omission_forgotten e
+    omission_forgotten_is (at_omitted_end e k b) = ap omission_forgotten e
+    omission_forgotten_is (at_closed e k b) = absurd (cc)
 
 end_no_text : (w : List Event) → begins_end w ≡ true → begins_text w ≡ true → ⊥
 end_no_text [] e h = cc
@@ -154,11 +154,11 @@ end_void t before previous path at p n w f v a =
   where
     outside_is : Place path (end n false ∷ w) at → at ≡ outside
     outside_is (at_outside e) = e
-    outside_is (at_loose e k b) = absurd (both_ways (is_void table) table_not_void (subst (λ x. is_void x ≡ true) (sym (top_name n false path f) ∙ k) v))
+    outside_is (at_omitted_end e k b) = absurd (both_ways (is_void table) table_not_void (subst (λ x. is_void x ≡ true) (sym (top_name n false path f) ∙ k) v))
     outside_is (at_closed e k b) = absurd (both_ways (is_in_svg path) (top_kind n false path f) k)
 
 -- an end tag that is left out, of another element than a section or colgroup
-pub end_left : (t : List Entry) (before : Before) (previous : Previous) (path : List Element) (at : Where) (p : Pending) (n : List ℕ) (w : List Event) → EndFits n false path → is_loose_end n ≡ false → is_self_closed at ≡ false
+pub end_left : (t : List Entry) (before : Before) (previous : Previous) (path : List Element) (at : Where) (p : Pending) (n : List ℕ) (w : List Event) → EndFits n false path → is_omission_noted n ≡ false → is_self_closed at ≡ false
     → end_falls n (current (outer path)) w ≡ true → Agrees t before previous path at p (end n false ∷ w) → Agrees t (end_omitted n) (Some (end n false)) (outer path) at p w
 end_left t before previous path at p n w f l s falls a =
     let here = outside_is a.place in
@@ -174,13 +174,13 @@ end_left t before previous path at p n w f l s falls a =
   where
     outside_is : Place path (end n false ∷ w) at → at ≡ outside
     outside_is (at_outside e) = e
-    outside_is (at_loose e k b) = absurd (both_ways (end_falls table (current (outer path)) w) (table_stays (current (outer path)) w) (subst (λ x. end_falls x (current (outer path)) w ≡ true) (sym (top_name n false path f) ∙ k) falls))
+    outside_is (at_omitted_end e k b) = absurd (both_ways (end_falls table (current (outer path)) w) (table_stays (current (outer path)) w) (subst (λ x. end_falls x (current (outer path)) w ≡ true) (sym (top_name n false path f) ∙ k) falls))
     outside_is (at_closed e k b) = absurd (both_ways (is_self_closed at) s (ap is_self_closed e))
 
 -- an end tag of a section or colgroup that is left out
-pub end_loosened : (t : List Entry) (path : List Element) (n : List ℕ) (w : List Event) → EndFits n false path → is_loose_end n ≡ true → end_falls n (current (outer path)) w ≡ true → Agrees t (end_omitted n) (Some (end n false)) (outer path) loose nothing w
-end_loosened t path n w f l falls = record {
-  place = at_loose refl (f.placed.in_table refl l) (loose_goes n (current (outer path)) w l falls);
+pub omission_noted : (t : List Entry) (path : List Element) (n : List ℕ) (w : List Event) → EndFits n false path → is_omission_noted n ≡ true → end_falls n (current (outer path)) w ≡ true → Agrees t (end_omitted n) (Some (end n false)) (outer path) after_omitted_end nothing w
+omission_noted t path n w f l falls = record {
+  place = at_omitted_end refl (f.placed.in_table refl l) (loose_goes n (current (outer path)) w l falls);
   fits = tt;
   quiet = λ h. refl;
   calm = λ h. refl;
@@ -192,5 +192,5 @@ end_loosened t path n w f l falls = record {
 -- before a text the place is outside of all
 pub text_outside : (path : List Element) (w : List Event) (s : List ℕ) (raw : Bool) (at : Where) → Place path (text s raw ∷ w) at → at ≡ outside
 text_outside path w s raw at (at_outside e) = e
-text_outside path w s raw at (at_loose e k b) = absurd (cc)
+text_outside path w s raw at (at_omitted_end e k b) = absurd (cc)
 text_outside path w s raw at (at_closed e k b) = absurd (cc)

@@ -25,7 +25,7 @@ use Rattle.hm_graph_laws.proofs.Splits.{join_ways}
 use Rattle.hm_graph_laws.specs.Edges.{Edge, edge, edge_to}
 use Rattle.hm_graph_laws.specs.States.{Where, after_name as at_name, after_quoted, decimal, in_double, in_single, in_unquoted, nothing, outside, State, first_state, state}
 use Rattle.hm_graph_laws.specs.Steps.{run}
-use Rattle.hm_graph_laws.specs.Units.{attribute_end, attribute_name, attribute_units, bare_attribute, character, character_units, doctype_bytes, end_tag, end_units, fixed, in_value, is_firm, is_loose_end, kind_of, line_feed_units, may_close_itself, next_of, Previous, start_tag, start_units, tag_close, tag_name, text_units, TextKind, Unit, units_from}
+use Rattle.hm_graph_laws.specs.Units.{attribute_end, attribute_name, attribute_units, bare_attribute, character, character_units, doctype_bytes, end_tag, end_units, fixed, in_value, is_required_after_omission, is_omission_noted, kind_of, line_feed_units, may_close_itself, next_of, Previous, start_tag, start_units, tag_close, tag_name, text_units, TextKind, Unit, units_from}
 use Rattle.hm_graph_laws.specs.UnitWays.{WayTo}
 use Rattle.hm_optimality_laws.specs.SpellingLaws.{AlwaysStands, SparesOnlyPlain, TreesHaveWays}
 use Rattle.hm_optimality_laws.proofs.Cuts.{joined}
@@ -188,8 +188,8 @@ module _ (g : Spelling) where
 
   start_over : SparesOnlyPlain g → (previous : Previous) (n : List ℕ) (foreign : Bool) (attributes : List Attribute) (w : List Event) → Over g (start_units g.rules previous n foreign attributes w) first_state first_state
   start_over plain previous n foreign [] w =
-      add (start_tag n (g.rules.omit && (not foreign && start_falls g.rules.frame n w)) (is_firm previous n) (may_close_itself foreign w)) [] first_state first_state (edge_to (start_bytes n) first_state)
-      (into_written n (g.rules.omit && (not foreign && start_falls g.rules.frame n w)) (is_firm previous n) (may_close_itself foreign w) first_state) (none first_state)
+      add (start_tag n (g.rules.omit && (not foreign && start_falls g.rules.frame n w)) (is_required_after_omission previous n) (may_close_itself foreign w)) [] first_state first_state (edge_to (start_bytes n) first_state)
+      (into_written n (g.rules.omit && (not foreign && start_falls g.rules.frame n w)) (is_required_after_omission previous n) (may_close_itself foreign w) first_state) (none first_state)
   start_over plain previous n foreign (x ∷ attributes) w =
       let a = attributes_over plain (x ∷ attributes) (state at_name nothing) in
       let closes = add (tag_close (may_close_itself foreign w)) [] a.to first_state (edge_to (62 ∷ []) first_state) (first _) (none first_state) in
@@ -199,11 +199,11 @@ module _ (g : Spelling) where
   end_over : (n : List ℕ) (foreign : Bool) (path : List Element) (w : List Event) → Over g (end_units g.rules n foreign path w) first_state first_state
   end_over n foreign path w = by_void (not foreign && is_void n)
     where
-      by_void : (v : Bool) → Over g (cond v [] (end_tag n (may_omit_end g.rules n foreign path w) (is_loose_end n) ∷ [])) first_state first_state
+      by_void : (v : Bool) → Over g (cond v [] (end_tag n (may_omit_end g.rules n foreign path w) (is_omission_noted n) ∷ [])) first_state first_state
       by_void true = none first_state
       by_void false =
-          add (end_tag n (may_omit_end g.rules n foreign path w) (is_loose_end n)) [] first_state first_state (edge_to (end_bytes n) first_state)
-          (into_end_written n (may_omit_end g.rules n foreign path w) (is_loose_end n) first_state refl) (none first_state)
+          add (end_tag n (may_omit_end g.rules n foreign path w) (is_omission_noted n)) [] first_state first_state (edge_to (end_bytes n) first_state)
+          (into_end_written n (may_omit_end g.rules n foreign path w) (is_omission_noted n) first_state refl) (none first_state)
 
   -- ---- all events
 

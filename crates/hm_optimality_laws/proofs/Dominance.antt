@@ -3,7 +3,7 @@ use Rattle.std.proofs.Common.{◌≡◌, ◌≤◌, ◌+◌, ℕ, Bool, true, fa
 use Rattle.std.proofs.lemmas.Bool.{and_parts}
 use Rattle.hm_graph_laws.proofs.States.{same_is}
 use Rattle.hm_graph_laws.specs.Edges.{Edge, edge_length}
-use Rattle.hm_graph_laws.specs.States.{Where, outside, loose, self_closed, after_name, after_unquoted, after_quoted, in_unquoted, in_double, in_single, in_section, Pending, nothing, less_than, hash, hash_x, decimal, hexadecimal, ampersand, named, half, one_bracket, two_brackets, State, state, same_state, same_where}
+use Rattle.hm_graph_laws.specs.States.{Where, outside, after_omitted_end, self_closed, after_name, after_unquoted, after_quoted, in_unquoted, in_double, in_single, in_section, Pending, nothing, less_than, hash, hash_x, decimal, hexadecimal, ampersand, named, half, one_bracket, two_brackets, State, state, same_state, same_where}
 use Rattle.hm_graph_laws.specs.UnitEdges.{edges_of}
 use Rattle.hm_graph_laws.specs.Units.{Unit, fixed, start_tag, tag_name, bare_attribute, attribute_name, character, attribute_end, tag_close, end_tag}
 use Rattle.hm_graph_laws.specs.Ways.{Way}
@@ -18,7 +18,7 @@ use Rattle.hm_spelling_spec.specs.Tags.{Spelling}
 
 form_is : (at : Where) → is_form at ≡ true → IsForm at
 form_is outside h = absurd (cc)
-form_is loose h = absurd (cc)
+form_is after_omitted_end h = absurd (cc)
 form_is self_closed h = absurd (cc)
 form_is after_name h = absurd (cc)
 form_is after_unquoted h = absurd (cc)
@@ -85,14 +85,14 @@ module _ (g : Spelling) (table : IsTable g.table) (less : ℕ → ℕ → Bool) 
 
   by_form_unit : (unit : Unit) (units : List Unit) → IsFollowed unit units → (e f : Edge) → form_dominates less g.table unit e f ≡ true → Replaces (edges_of g) units fewer e f
   by_form_unit (fixed b) units follows e f h = absurd (cc)
-  by_form_unit (start_tag n omits firm closes) units follows e f h = absurd (cc)
+  by_form_unit (start_tag n omits required_after_omission closes) units follows e f h = absurd (cc)
   by_form_unit (tag_name n) units follows e f h = absurd (cc)
   by_form_unit (bare_attribute n) units follows e f h = absurd (cc)
   by_form_unit (attribute_name n v) units (rest, is) e f h = subst (λ us. Replaces (edges_of g) us fewer e f) (sym is) (by_form n v rest e f h)
   by_form_unit (character kind c next) units follows e f h = absurd (cc)
   by_form_unit attribute_end units follows e f h = absurd (cc)
   by_form_unit (tag_close closes) units follows e f h = absurd (cc)
-  by_form_unit (end_tag n omits loosens) units follows e f h = absurd (cc)
+  by_form_unit (end_tag n omits notes_omission) units follows e f h = absurd (cc)
 
   replaces : (unit : Unit) (units : List Unit) → IsFollowed unit units → (e f : Edge) → (can_replace f.to e.to && less (edge_length f) (edge_length e)) || form_dominates less g.table unit e f ≡ true
       → Replaces (edges_of g) units fewer e f

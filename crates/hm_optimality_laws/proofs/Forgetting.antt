@@ -11,12 +11,12 @@ use Rattle.hm_refs.specs.References.{blocks, is_semicolon}
 use Rattle.hm_refs.specs.Tables.{IsIn, first, later}
 use Rattle.hm_spelling_spec.specs.Characters.{CharacterRules, Spot, is_value, may_stand, opens}
 use Rattle.hm_spelling_spec.specs.Tags.{Spelling, character_rules}
-use Rattle.hm_graph_laws.specs.TagEdges.{after_left_out, end_bytes, is_loose, is_self_closed, unloosed}
+use Rattle.hm_graph_laws.specs.TagEdges.{after_left_out, end_bytes, is_after_omitted_end, is_self_closed, omission_forgotten}
 use Rattle.hm_graph_laws.proofs.CharacterWays.{in_map}
 use Rattle.hm_graph_laws.proofs.In.{in_append, in_left, in_right}
 use Rattle.hm_graph_laws.specs.CharacterEdges.{Choice, as_itself, by_references, choice, choices, half_of, is_in_section, itself_by, itself_to, kept_at, opened_sections, outside_edges, spot_at}
 use Rattle.hm_graph_laws.specs.Edges.{Edge, edge_length, edge_to}
-use Rattle.hm_graph_laws.specs.States.{Where, outside, loose, self_closed, after_name, after_unquoted, after_quoted, in_unquoted, in_double, in_single, in_section, Pending, nothing, less_than, hash, hash_x, decimal, hexadecimal, ampersand, named, half, one_bracket, two_brackets, State, state, first_state, value_spot}
+use Rattle.hm_graph_laws.specs.States.{Where, outside, after_omitted_end, self_closed, after_name, after_unquoted, after_quoted, in_unquoted, in_double, in_single, in_section, Pending, nothing, less_than, hash, hash_x, decimal, hexadecimal, ampersand, named, half, one_bracket, two_brackets, State, state, first_state, value_spot}
 use Rattle.hm_graph_laws.specs.Steps.{ampersand_in_text, ampersand_in_value, goes_on_decimal, goes_on_hexadecimal, is_hash, is_root, may_end, named_in_text, named_in_value, onto, run, step, unless}
 use Rattle.hm_graph_laws.specs.Units.{Unit, fixed, start_tag, tag_name, bare_attribute, attribute_name, character, attribute_end, tag_close, end_tag}
 
@@ -206,17 +206,17 @@ outside_bettered t rules spot c next s h =
     (kept_bettered s.at (unopened s h) (choices t rules spot c next s.pending) (choices t rules spot c next nothing) (choices_bettered t rules spot c next s.pending (free_of s h)))
     (rw (free_of s h) (all_bettered (opened_sections rules.ascii spot c next (forgotten s))))
 
-unloosed_unopened : (at : Where) → is_in_section (unloosed at) ≡ is_in_section at
-unloosed_unopened outside = refl
-unloosed_unopened loose = refl
-unloosed_unopened self_closed = refl
-unloosed_unopened after_name = refl
-unloosed_unopened after_unquoted = refl
-unloosed_unopened after_quoted = refl
-unloosed_unopened in_unquoted = refl
-unloosed_unopened in_double = refl
-unloosed_unopened in_single = refl
-unloosed_unopened in_section = refl
+omission_forgotten_unopened : (at : Where) → is_in_section (omission_forgotten at) ≡ is_in_section at
+omission_forgotten_unopened outside = refl
+omission_forgotten_unopened after_omitted_end = refl
+omission_forgotten_unopened self_closed = refl
+omission_forgotten_unopened after_name = refl
+omission_forgotten_unopened after_unquoted = refl
+omission_forgotten_unopened after_quoted = refl
+omission_forgotten_unopened in_unquoted = refl
+omission_forgotten_unopened in_double = refl
+omission_forgotten_unopened in_single = refl
+omission_forgotten_unopened in_section = refl
 
 left_out_under : (b : Bool) (s : State) → may_forget s ≡ true → IsUnder (after_left_out b (forgotten s)) (after_left_out b s)
 left_out_under true s h = inl refl
@@ -228,10 +228,10 @@ closing_bettered false es = none_bettered IsBetter es
 
 unit_bettered : (g : Spelling) (unit : Unit) (s : State) → may_forget s ≡ true → AreBettered IsBetter (edges_of g unit s) (edges_of g unit (forgotten s))
 unit_bettered g (fixed b) s h = all_bettered (edges_of g (fixed b) s)
-unit_bettered g (start_tag n omits firm closes) s h =
-    join_bettered IsBetter (cond (omits && not (firm && is_loose s.at)) (edge_to [] (state (unloosed s.at) s.pending) ∷ []) []) (cond (omits && not (firm && is_loose s.at)) (edge_to [] (state (unloosed s.at) nothing) ∷ []) []) _ _
-    (test_bettered IsBetter (omits && not (firm && is_loose s.at)) (edge_to [] (state (unloosed s.at) s.pending) ∷ []) (edge_to [] (state (unloosed s.at) nothing) ∷ []) [] []
-    (one_bettered IsBetter (edge_to [] (state (unloosed s.at) s.pending)) (edge_to [] (state (unloosed s.at) nothing)) (omega arith, inr (may_forget_is (unloosed s.at) s.pending (unloosed_unopened s.at ∙ unopened s h) (free_of s h), refl)))
+unit_bettered g (start_tag n omits required_after_omission closes) s h =
+    join_bettered IsBetter (cond (omits && not (required_after_omission && is_after_omitted_end s.at)) (edge_to [] (state (omission_forgotten s.at) s.pending) ∷ []) []) (cond (omits && not (required_after_omission && is_after_omitted_end s.at)) (edge_to [] (state (omission_forgotten s.at) nothing) ∷ []) []) _ _
+    (test_bettered IsBetter (omits && not (required_after_omission && is_after_omitted_end s.at)) (edge_to [] (state (omission_forgotten s.at) s.pending) ∷ []) (edge_to [] (state (omission_forgotten s.at) nothing) ∷ []) [] []
+    (one_bettered IsBetter (edge_to [] (state (omission_forgotten s.at) s.pending)) (edge_to [] (state (omission_forgotten s.at) nothing)) (omega arith, inr (may_forget_is (omission_forgotten s.at) s.pending (omission_forgotten_unopened s.at ∙ unopened s h) (free_of s h), refl)))
     (none_bettered IsBetter []))
     (all_bettered _)
 unit_bettered g (tag_name n) s h = all_bettered (edges_of g (tag_name n) s)
@@ -240,12 +240,12 @@ unit_bettered g (attribute_name n v) s h = all_bettered (edges_of g (attribute_n
 unit_bettered g (character kind c next) s h = rw (unopened s h) (outside_bettered g.table (character_rules g) (spot_at kind s.at) c next s h)
 unit_bettered g attribute_end s h = closing_bettered (may_end g.table (value_spot s.at) s.pending) (closed_at s.at)
 unit_bettered g (tag_close closes) s h = all_bettered (edges_of g (tag_close closes) s)
-unit_bettered g (end_tag n omits loosens) s h =
+unit_bettered g (end_tag n omits notes_omission) s h =
     test_bettered IsBetter (is_self_closed s.at) (edge_to [] first_state ∷ []) (edge_to [] first_state ∷ []) _ _
     (all_bettered (edge_to [] first_state ∷ []))
-    (join_bettered IsBetter (cond omits (edge_to [] (after_left_out loosens s) ∷ []) []) (cond omits (edge_to [] (after_left_out loosens (forgotten s)) ∷ []) []) (edge_to (end_bytes n) first_state ∷ []) (edge_to (end_bytes n) first_state ∷ [])
-    (test_bettered IsBetter omits (edge_to [] (after_left_out loosens s) ∷ []) (edge_to [] (after_left_out loosens (forgotten s)) ∷ []) [] []
-    (one_bettered IsBetter (edge_to [] (after_left_out loosens s)) (edge_to [] (after_left_out loosens (forgotten s))) (omega arith, left_out_under loosens s h))
+    (join_bettered IsBetter (cond omits (edge_to [] (after_left_out notes_omission s) ∷ []) []) (cond omits (edge_to [] (after_left_out notes_omission (forgotten s)) ∷ []) []) (edge_to (end_bytes n) first_state ∷ []) (edge_to (end_bytes n) first_state ∷ [])
+    (test_bettered IsBetter omits (edge_to [] (after_left_out notes_omission s) ∷ []) (edge_to [] (after_left_out notes_omission (forgotten s)) ∷ []) [] []
+    (one_bettered IsBetter (edge_to [] (after_left_out notes_omission s)) (edge_to [] (after_left_out notes_omission (forgotten s))) (omega arith, left_out_under notes_omission s h))
     (none_bettered IsBetter []))
     (all_bettered (edge_to (end_bytes n) first_state ∷ [])))
 

@@ -13,13 +13,13 @@ use Rattle.hm_spelling_spec.specs.Omission.{bars, end_falls, has_none, may_omit_
 use Rattle.hm_spelling_spec.specs.Spellings as forms
 use Rattle.hm_spelling_spec.specs.Spellings.{Before, after_end, after_start, end_omitted, EndForm, EndSp, has_no_end_tag, is_self_closing, left_out_before, opening, other, self_closing, SpellsFrom, spot_of, StartForm, StartSp}
 use Rattle.hm_spelling_spec.specs.Tags.{Spelling, SpellsStart}
-use Rattle.hm_graph_laws.specs.TagEdges.{after_left_out, end_bytes, is_self_closed, start_bytes, unloosed}
+use Rattle.hm_graph_laws.specs.TagEdges.{after_left_out, end_bytes, is_self_closed, start_bytes, omission_forgotten}
 use Rattle.hm_graph_laws.specs.Edges.{edge_to}
-use Rattle.hm_graph_laws.specs.States.{Where, outside, loose, self_closed, Pending, nothing, State, first_state, state}
+use Rattle.hm_graph_laws.specs.States.{Where, outside, after_omitted_end, self_closed, Pending, nothing, State, first_state, state}
 use Rattle.hm_graph_laws.specs.Steps.{keeps}
-use Rattle.hm_graph_laws.specs.Units.{doctype_bytes, end_tag, is_firm, is_loose_end, may_close_itself, Previous, start_tag, text_units, Unit, units_from}
+use Rattle.hm_graph_laws.specs.Units.{doctype_bytes, end_tag, is_required_after_omission, is_omission_noted, may_close_itself, Previous, start_tag, text_units, Unit, units_from}
 use Rattle.hm_optimality_laws.specs.SpellingLaws.{HasWay}
-use Rattle.hm_optimality_laws.proofs.Between.{Agrees, after_text, end_in_text, end_left, end_loosened, end_void, fresh, start_closed, start_left, text_outside}
+use Rattle.hm_optimality_laws.proofs.Between.{Agrees, after_text, end_in_text, end_left, omission_noted, end_void, fresh, start_closed, start_left, text_outside}
 use Rattle.hm_optimality_laws.proofs.Cuts.{joined}
 use Rattle.hm_optimality_laws.proofs.Markup.{leaves_end, leaves_start}
 use Rattle.hm_optimality_laws.proofs.Order.{element, EndFits, InOrder, StartFits}
@@ -99,10 +99,10 @@ module _ (g : Spelling) (table : IsTable g.table) where
   start_omitted w more n false (x ∷ attributes) before previous path at p b kind none omits free falls a f o s k = absurd (cc)
   start_omitted w more n false [] before previous path at p b kind none omits free falls a f o s k =
       let opens = start_open g.rules.frame n w falls in
-      let m = more opening (Some (start n false [])) (element n false ∷ path) (unloosed at) p b (start_left g.table before previous path at p n [] w opens a) o s (same_kept g.table (element n false ∷ path) path p b opens.no_text f.placed.around k) in
+      let m = more opening (Some (start n false [])) (element n false ∷ path) (omission_forgotten at) p b (start_left g.table before previous path at p n [] w opens a) o s (same_kept g.table (element n false ∷ path) path p b opens.no_text f.placed.around k) in
       let may : g.rules.omit && (not false && start_falls g.rules.frame n w) ≡ true = rw (omits, falls) refl in
-      let t = through (start_tag n (g.rules.omit && (not false && start_falls g.rules.frame n w)) (is_firm previous n) (may_close_itself false w)) (units_from g.rules (Some (start n false [])) (element n false ∷ path) w) (state at p) (state (unloosed at) p) [] m.bytes b [] b
-      (into_left_out n (g.rules.omit && (not false && start_falls g.rules.frame n w)) (is_firm previous n) (may_close_itself false w) (state at p) may (sym (a.barred n) ∙ free)) (omega arith) refl m.way m.short in
+      let t = through (start_tag n (g.rules.omit && (not false && start_falls g.rules.frame n w)) (is_required_after_omission previous n) (may_close_itself false w)) (units_from g.rules (Some (start n false [])) (element n false ∷ path) w) (state at p) (state (omission_forgotten at) p) [] m.bytes b [] b
+      (into_left_out n (g.rules.omit && (not false && start_falls g.rules.frame n w)) (is_required_after_omission previous n) (may_close_itself false w) (state at p) may (sym (a.barred n) ∙ free)) (omega arith) refl m.way m.short in
       record { bytes = t.bytes; way = t.way; short = t.short }
 
   -- with or without a '/' that says nothing
@@ -110,8 +110,8 @@ module _ (g : Spelling) (table : IsTable g.table) where
       → InOrder (element n foreign ∷ path) w → b ≡ piece ++ rest → SpellsStart g n attributes slash piece rest → SpellsFrom g opening (element n foreign ∷ path) w rest → Found g previous path (state at p) (start n foreign attributes ∷ w) b
   start_written w more n foreign [] slash before previous path at p b piece rest o is s more_spells =
       let m = more opening (Some (start n foreign [])) (element n foreign ∷ path) outside nothing rest (fresh g.table opening (Some (start n foreign [])) (element n foreign ∷ path) w refl refl refl) o more_spells refl in
-      let t = through (start_tag n (g.rules.omit && (not foreign && start_falls g.rules.frame n w)) (is_firm previous n) (may_close_itself foreign w)) (units_from g.rules (Some (start n foreign [])) (element n foreign ∷ path) w) (state at p) first_state (start_bytes n) m.bytes b piece rest
-      (into_written n (g.rules.omit && (not foreign && start_falls g.rules.frame n w)) (is_firm previous n) (may_close_itself foreign w) (state at p)) (start_short g n [] slash piece rest s) is m.way m.short in
+      let t = through (start_tag n (g.rules.omit && (not foreign && start_falls g.rules.frame n w)) (is_required_after_omission previous n) (may_close_itself foreign w)) (units_from g.rules (Some (start n foreign [])) (element n foreign ∷ path) w) (state at p) first_state (start_bytes n) m.bytes b piece rest
+      (into_written n (g.rules.omit && (not foreign && start_falls g.rules.frame n w)) (is_required_after_omission previous n) (may_close_itself foreign w) (state at p)) (start_short g n [] slash piece rest s) is m.way m.short in
       record { bytes = t.bytes; way = t.way; short = t.short }
   start_written w more n foreign (x ∷ attributes) slash before previous path at p b piece rest o is s more_spells =
       let m = more opening (Some (start n foreign (x ∷ attributes))) (element n foreign ∷ path) outside nothing rest (fresh g.table opening (Some (start n foreign (x ∷ attributes))) (element n foreign ∷ path) w refl refl refl) o more_spells refl in
@@ -126,8 +126,8 @@ module _ (g : Spelling) (table : IsTable g.table) where
       → InOrder (element n true ∷ path) w → begins_end w ≡ true → b ≡ piece ++ rest → SpellsStart g n attributes true piece rest → SpellsFrom g self_closing (element n true ∷ path) w rest → Found g previous path (state at p) (start n true attributes ∷ w) b
   start_slashed w more n [] before previous path at p b piece rest o e is s more_spells =
       let m = more self_closing (Some (start n true [])) (element n true ∷ path) self_closed nothing rest (start_closed g.table path n [] w e) o more_spells refl in
-      let t = through (start_tag n (g.rules.omit && (not true && start_falls g.rules.frame n w)) (is_firm previous n) (may_close_itself true w)) (units_from g.rules (Some (start n true [])) (element n true ∷ path) w) (state at p) (state self_closed nothing) (slashed_bytes n) m.bytes b piece rest
-      (into_slashed n (g.rules.omit && (not true && start_falls g.rules.frame n w)) (is_firm previous n) (may_close_itself true w) (state at p) e) (slashed_short g n [] piece rest s) is m.way m.short in
+      let t = through (start_tag n (g.rules.omit && (not true && start_falls g.rules.frame n w)) (is_required_after_omission previous n) (may_close_itself true w)) (units_from g.rules (Some (start n true [])) (element n true ∷ path) w) (state at p) (state self_closed nothing) (slashed_bytes n) m.bytes b piece rest
+      (into_slashed n (g.rules.omit && (not true && start_falls g.rules.frame n w)) (is_required_after_omission previous n) (may_close_itself true w) (state at p) e) (slashed_short g n [] piece rest s) is m.way m.short in
       record { bytes = t.bytes; way = t.way; short = t.short }
   start_slashed w more n (x ∷ attributes) before previous path at p b piece rest o e is s more_spells =
       let m = more self_closing (Some (start n true (x ∷ attributes))) (element n true ∷ path) self_closed nothing rest (start_closed g.table path n (x ∷ attributes) w e) o more_spells refl in
@@ -155,11 +155,11 @@ module _ (g : Spelling) (table : IsTable g.table) where
   -- ---- ends
 
   -- where an end tag may stand, the units have one
-  with_end : (w : List Event) (n : List ℕ) (foreign : Bool) (previous : Previous) (path : List Element) (s : State) (b : List ℕ) → not foreign && is_void n ≡ false → Through g (end_tag n (may_omit_end g.rules n foreign (outer path) w) (is_loose_end n)) (units_from g.rules (Some (end n foreign)) (outer path) w) s b
+  with_end : (w : List Event) (n : List ℕ) (foreign : Bool) (previous : Previous) (path : List Element) (s : State) (b : List ℕ) → not foreign && is_void n ≡ false → Through g (end_tag n (may_omit_end g.rules n foreign (outer path) w) (is_omission_noted n)) (units_from g.rules (Some (end n foreign)) (outer path) w) s b
       → Found g previous path s (end n foreign ∷ w) b
   with_end w n foreign previous path s b v t = record {
     bytes = t.bytes;
-    way = subst (λ c. Way (edges_of g) (cond c [] (end_tag n (may_omit_end g.rules n foreign (outer path) w) (is_loose_end n) ∷ []) ++ units_from g.rules (Some (end n foreign)) (outer path) w) s t.bytes) (sym v) t.way;
+    way = subst (λ c. Way (edges_of g) (cond c [] (end_tag n (may_omit_end g.rules n foreign (outer path) w) (is_omission_noted n) ∷ []) ++ units_from g.rules (Some (end n foreign)) (outer path) w) s t.bytes) (sym v) t.way;
     short = t.short;
   }
 
@@ -170,7 +170,7 @@ module _ (g : Spelling) (table : IsTable g.table) where
       let m = more other (Some (end n false)) (outer path) at p b (end_void g.table before previous path at p n w f v a) o s (same_kept g.table (outer path) path p b f.placed.around (end_in_text n path f (void_plain n v).1) k) in
       record {
         bytes = m.bytes;
-        way = subst (λ c. Way (edges_of g) (cond c [] (end_tag n (may_omit_end g.rules n false (outer path) w) (is_loose_end n) ∷ []) ++ units_from g.rules (Some (end n false)) (outer path) w) (state at p) m.bytes) (sym v) m.way;
+        way = subst (λ c. Way (edges_of g) (cond c [] (end_tag n (may_omit_end g.rules n false (outer path) w) (is_omission_noted n) ∷ []) ++ units_from g.rules (Some (end n false)) (outer path) w) (state at p) m.bytes) (sym v) m.way;
         short = m.short;
       }
 
@@ -179,7 +179,7 @@ module _ (g : Spelling) (table : IsTable g.table) where
   end_self w more n foreign before previous path at p b v c o s =
       let m = more other (Some (end n foreign)) (outer path) outside nothing b (fresh g.table other (Some (end n foreign)) (outer path) w refl refl refl) o s refl in
       with_end w n foreign previous path (state at p) b v
-      (through (end_tag n (may_omit_end g.rules n foreign (outer path) w) (is_loose_end n)) (units_from g.rules (Some (end n foreign)) (outer path) w) (state at p) first_state [] m.bytes b [] b (into_closed n (may_omit_end g.rules n foreign (outer path) w) (is_loose_end n) (state at p) c) (omega arith) refl m.way m.short)
+      (through (end_tag n (may_omit_end g.rules n foreign (outer path) w) (is_omission_noted n)) (units_from g.rules (Some (end n foreign)) (outer path) w) (state at p) first_state [] m.bytes b [] b (into_closed n (may_omit_end g.rules n foreign (outer path) w) (is_omission_noted n) (state at p) c) (omega arith) refl m.way m.short)
 
   -- the way after an end tag that is left out
   record FoundAfter (n : List ℕ) (path : List Element) (to : State) (w : List Event) (b : List ℕ) : Type 0 where
@@ -188,9 +188,9 @@ module _ (g : Spelling) (table : IsTable g.table) where
     short : length bytes ≤ length b
 
   end_after : (w : List Event) → More g w → (n : List ℕ) (before : Before) (previous : Previous) (path : List Element) (at : Where) (p : Pending) (b : List ℕ) → is_self_closed at ≡ false → end_falls n (current (outer path)) w ≡ true
-      → Agrees g.table before previous path at p (end n false ∷ w) → EndFits n false path → InOrder (outer path) w → SpellsFrom g (end_omitted n) (outer path) w b → keeps g.table (spot_of path) p b ≡ true → (l : Bool) → is_loose_end n ≡ l → FoundAfter n path (after_left_out l (state at p)) w b
+      → Agrees g.table before previous path at p (end n false ∷ w) → EndFits n false path → InOrder (outer path) w → SpellsFrom g (end_omitted n) (outer path) w b → keeps g.table (spot_of path) p b ≡ true → (l : Bool) → is_omission_noted n ≡ l → FoundAfter n path (after_left_out l (state at p)) w b
   end_after w more n before previous path at p b c falls a f o s k true l =
-      let m = more (end_omitted n) (Some (end n false)) (outer path) loose nothing b (end_loosened g.table path n w f l falls) o s refl in
+      let m = more (end_omitted n) (Some (end n false)) (outer path) after_omitted_end nothing b (omission_noted g.table path n w f l falls) o s refl in
       record { bytes = m.bytes; way = m.way; short = m.short }
   end_after w more n before previous path at p b c falls a f o s k false l =
       let m = more (end_omitted n) (Some (end n false)) (outer path) at p b (end_left g.table before previous path at p n w f l c falls a) o s (same_kept g.table (outer path) path p b f.placed.around (end_in_text n path f (end_open n (current (outer path)) w falls)) k) in
@@ -200,17 +200,17 @@ module _ (g : Spelling) (table : IsTable g.table) where
       → Agrees g.table before previous path at p (end n foreign ∷ w) → EndFits n foreign path → InOrder (outer path) w → SpellsFrom g (end_omitted n) (outer path) w b → keeps g.table (spot_of path) p b ≡ true → Found g previous path (state at p) (end n foreign ∷ w) b
   end_omits w more n true before previous path at p b v c may a f o s k = absurd (let l = (leaves_end g.rules n true (outer path) w may).kind in cc)
   end_omits w more n false before previous path at p b v c may a f o s k =
-      let m = end_after w more n before previous path at p b c (leaves_end g.rules n false (outer path) w may).falls a f o s k (is_loose_end n) refl in
+      let m = end_after w more n before previous path at p b c (leaves_end g.rules n false (outer path) w may).falls a f o s k (is_omission_noted n) refl in
       with_end w n false previous path (state at p) b v
-      (through (end_tag n (may_omit_end g.rules n false (outer path) w) (is_loose_end n)) (units_from g.rules (Some (end n false)) (outer path) w) (state at p) (after_left_out (is_loose_end n) (state at p)) [] m.bytes b [] b
-      (into_end_left_out n (may_omit_end g.rules n false (outer path) w) (is_loose_end n) (state at p) c may) (omega arith) refl m.way m.short)
+      (through (end_tag n (may_omit_end g.rules n false (outer path) w) (is_omission_noted n)) (units_from g.rules (Some (end n false)) (outer path) w) (state at p) (after_left_out (is_omission_noted n) (state at p)) [] m.bytes b [] b
+      (into_end_left_out n (may_omit_end g.rules n false (outer path) w) (is_omission_noted n) (state at p) c may) (omega arith) refl m.way m.short)
 
   end_written : (w : List Event) → More g w → (n : List ℕ) (foreign : Bool) (before : Before) (previous : Previous) (path : List Element) (at : Where) (p : Pending) (b piece rest : List ℕ) → not foreign && is_void n ≡ false → is_self_closed at ≡ false
       → InOrder (outer path) w → b ≡ piece ++ rest → length (end_bytes n) ≤ length piece → SpellsFrom g other (outer path) w rest → Found g previous path (state at p) (end n foreign ∷ w) b
   end_written w more n foreign before previous path at p b piece rest v c o is short s =
       let m = more other (Some (end n foreign)) (outer path) outside nothing rest (fresh g.table other (Some (end n foreign)) (outer path) w refl refl refl) o s refl in
       with_end w n foreign previous path (state at p) b v
-      (through (end_tag n (may_omit_end g.rules n foreign (outer path) w) (is_loose_end n)) (units_from g.rules (Some (end n foreign)) (outer path) w) (state at p) first_state (end_bytes n) m.bytes b piece rest (into_end_written n (may_omit_end g.rules n foreign (outer path) w) (is_loose_end n) (state at p) c) short is m.way m.short)
+      (through (end_tag n (may_omit_end g.rules n foreign (outer path) w) (is_omission_noted n)) (units_from g.rules (Some (end n foreign)) (outer path) w) (state at p) first_state (end_bytes n) m.bytes b piece rest (into_end_written n (may_omit_end g.rules n foreign (outer path) w) (is_omission_noted n) (state at p) c) short is m.way m.short)
 
   end_case : (w : List Event) → More g w → (n : List ℕ) (foreign : Bool) → More g (end n foreign ∷ w)
   end_case w more n foreign before previous path at p b a (f, o) (form, piece, rest, is, s, more_spells) k = by_form form s more_spells (not foreign && is_void n) refl (is_self_closed at) refl

@@ -14,7 +14,7 @@ use Rattle.hm_elements.proofs.Events.{EventStands, attributes_allowed, start_all
 use Rattle.hm_elements.proofs.NameFacts.{svg_name_is_tag_name}
 use Rattle.hm_elements.proofs.TableFacts.{stands_parent}
 use Rattle.hm_elements.proofs.TableTools.{entry_passes, same_bytes}
-use Rattle.hm_graph_laws.specs.Units.{is_loose_end}
+use Rattle.hm_graph_laws.specs.Units.{is_omission_noted}
 use Rattle.hm_optimality_laws.proofs.Names.{names_low, tag_name_low}
 
 abbrev pub element : List ℕ → Bool → Element
@@ -25,7 +25,7 @@ element n foreign = record { name = n; foreign = foreign }
 pub record IsPlaced (n : List ℕ) (foreign : Bool) (path : List Element) : Type 0 where
   pub low : map lower n ≡ n
   pub around : is_in_text path ≡ false
-  pub in_table : foreign ≡ false → is_loose_end n ≡ true → current path ≡ table
+  pub in_table : foreign ≡ false → is_omission_noted n ≡ true → current path ≡ table
 
 pub record StartFits (n : List ℕ) (foreign : Bool) (attributes : List Attribute) (path : List Element) : Type 0 where
   pub placed : IsPlaced n foreign path
@@ -71,17 +71,17 @@ frame_on f (m ∷ k ∷ path) e w h = (f, (and_parts _ (has_frame f (path_after_
 -- ---- starts
 
 -- html, head and body
-frame_plain : (map lower html ≡ html) × (map lower head ≡ head) × (map lower body ≡ body) × (is_loose_end html ≡ false) × (is_loose_end head ≡ false) × (is_loose_end body ≡ false)
+frame_plain : (map lower html ≡ html) × (map lower head ≡ head) × (map lower body ≡ body) × (is_omission_noted html ≡ false) × (is_omission_noted head ≡ false) × (is_omission_noted body ≡ false)
 unfolding lower is_section sections is_among
 frame_plain = (refl, refl, refl, refl, refl, refl)
 
-root_placed : (root n : List ℕ) (foreign : Bool) (path : List Element) → map lower root ≡ root → is_loose_end root ≡ false → is_in_text path ≡ false → is_html root n foreign ≡ true → IsPlaced n foreign path
+root_placed : (root n : List ℕ) (foreign : Bool) (path : List Element) → map lower root ≡ root → is_omission_noted root ≡ false → is_in_text path ≡ false → is_html root n foreign ≡ true → IsPlaced n foreign path
 root_placed root n foreign path low tight around h =
     let (name, kind) = html_is root n foreign h in
     record {
       low = subst (λ x. map lower x ≡ x) (sym name) low;
       around = around;
-      in_table = λ f l. absurd (both_ways (is_loose_end root) tight (subst (λ x. is_loose_end x ≡ true) name l));
+      in_table = λ f l. absurd (both_ways (is_omission_noted root) tight (subst (λ x. is_omission_noted x ≡ true) name l));
     }
 
 passed : {A : Type 0} (b : Bool) (a : A) (o : A) → cond b (Some a) None ≡ Some o → b ≡ true
@@ -98,14 +98,14 @@ second_is_root no_head f' n foreign attributes h = inl (passed (is_html head n f
 second_is_root no_body f' n foreign attributes h = inr (passed (is_html body n foreign) has_body f' h)
 second_is_root has_body f' n foreign attributes h = absurd (cc)
 
-loose_part : (n : List ℕ) → is_loose_end n ≡ true → is_among n (words "caption colgroup thead tbody tfoot") ≡ true
+loose_part : (n : List ℕ) → is_omission_noted n ≡ true → is_among n (words "caption colgroup thead tbody tfoot") ≡ true
 unfolding is_section sections is_among
 loose_part n h = elim (or_cases (is_section n) (bytes_eq n colgroup) h) [
   | inl s ↦ entry_passes (λ m. is_among m (words "caption colgroup thead tbody tfoot")) n sections refl s
   | inr e ↦ subst (λ x. is_among x (words "caption colgroup thead tbody tfoot") ≡ true) (sym (same_bytes n colgroup e)) refl
 ]
 
-part_in_table : (n : List ℕ) (path : List Element) → stands_on n path ≡ true → is_loose_end n ≡ true → current path ≡ table
+part_in_table : (n : List ℕ) (path : List Element) → stands_on n path ≡ true → is_omission_noted n ≡ true → current path ≡ table
 part_in_table n [] h l = absurd (cc)
 part_in_table n (e ∷ path) h l = (stands_parent n e.name (current_name path) h).in_table (loose_part n l)
 

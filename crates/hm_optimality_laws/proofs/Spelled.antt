@@ -13,13 +13,13 @@ use Rattle.hm_spelling_spec.specs.Omission.{may_omit_end, start_falls}
 use Rattle.hm_spelling_spec.specs.Spellings as forms
 use Rattle.hm_spelling_spec.specs.Spellings.{Before, after_end, end_omitted, has_no_end_tag, is_self_closing, left_out_before, opening, other, self_closing, SpellsFrom, spot_of}
 use Rattle.hm_spelling_spec.specs.Tags.{Spelling, SpellsStart}
-use Rattle.hm_graph_laws.specs.TagEdges.{after_left_out, end_bytes, is_loose, is_self_closed, unloosed}
+use Rattle.hm_graph_laws.specs.TagEdges.{after_left_out, end_bytes, is_after_omitted_end, is_self_closed, omission_forgotten}
 use Rattle.hm_graph_laws.proofs.In.{only}
 use Rattle.hm_graph_laws.specs.Edges.{edge_to}
-use Rattle.hm_graph_laws.specs.States.{Where, outside, loose, self_closed, Pending, nothing, first_state, state}
+use Rattle.hm_graph_laws.specs.States.{Where, outside, after_omitted_end, self_closed, Pending, nothing, first_state, state}
 use Rattle.hm_graph_laws.specs.Steps.{Fits, keeps}
-use Rattle.hm_graph_laws.specs.Units.{doctype_bytes, end_tag, is_firm, is_loose_end, may_close_itself, Previous, text_units, units_from}
-use Rattle.hm_optimality_laws.proofs.Between.{Agrees, after_text, end_in_text, end_left, end_loosened, end_void, fresh, start_closed, start_left, text_outside}
+use Rattle.hm_graph_laws.specs.Units.{doctype_bytes, end_tag, is_required_after_omission, is_omission_noted, may_close_itself, Previous, text_units, units_from}
+use Rattle.hm_optimality_laws.proofs.Between.{Agrees, after_text, end_in_text, end_left, omission_noted, end_void, fresh, start_closed, start_left, text_outside}
 use Rattle.hm_optimality_laws.proofs.Cuts.{cut}
 use Rattle.hm_optimality_laws.proofs.Markup.{doctype_markup, leaves_end, markup_front, markup_keeps, may_leave_start, table_markup}
 use Rattle.hm_optimality_laws.proofs.Order.{element, EndFits, InOrder, StartFits}
@@ -74,11 +74,11 @@ module _ (g : Spelling) (table : IsTable g.table) where
   start_kept path p n more b rest f is = markup_keeps g.table table path p b f (markup_front b (60 ∷ more) rest is (more, refl))
 
   start_omitted : (w : List Event) → More g w → (n : List ℕ) (attributes : List Attribute) (before : Before) (previous : Previous) (path : List Element) (at : Where) (p : Pending) (b : List ℕ) → attributes ≡ []
-      → Agrees g.table before previous path at p (start n false attributes ∷ w) → StartFits n false attributes path → InOrder (element n false ∷ path) w → g.rules.omit ≡ true → start_falls g.rules.frame n w ≡ true → is_firm previous n && is_loose at ≡ false
-      → Way (edges_of g) (units_from g.rules (Some (start n false attributes)) (element n false ∷ path) w) (state (unloosed at) p) b → Spells g before path p (start n false attributes ∷ w) b
+      → Agrees g.table before previous path at p (start n false attributes ∷ w) → StartFits n false attributes path → InOrder (element n false ∷ path) w → g.rules.omit ≡ true → start_falls g.rules.frame n w ≡ true → is_required_after_omission previous n && is_after_omitted_end at ≡ false
+      → Way (edges_of g) (units_from g.rules (Some (start n false attributes)) (element n false ∷ path) w) (state (omission_forgotten at) p) b → Spells g before path p (start n false attributes ∷ w) b
   start_omitted w more n attributes before previous path at p b none a f o omits falls free way =
       let opens = start_open g.rules.frame n w falls in
-      let m = more opening (Some (start n false attributes)) (element n false ∷ path) (unloosed at) p b (start_left g.table before previous path at p n attributes w opens a) o way in
+      let m = more opening (Some (start n false attributes)) (element n false ∷ path) (omission_forgotten at) p b (start_left g.table before previous path at p n attributes w opens a) o way in
       record {
         spells = (forms.omitted, [], b, refl, (refl, may_leave_start g.rules (left_out_before before) n false attributes w (record { omits = omits; kind = refl; bare = rw none refl; free = a.barred n ∙ free; falls = falls })), m.spells);
         kept = same_kept g.table path (element n false ∷ path) p b f.placed.around opens.no_text m.kept;
@@ -106,14 +106,14 @@ module _ (g : Spelling) (table : IsTable g.table) where
       record { spells = (forms.slashed, 60 ∷ inner, rest, is, (e, s), m.spells); kept = start_kept path p n inner b rest a.fits is }
 
   start_case : (w : List Event) → More g w → (n : List ℕ) (foreign : Bool) (attributes : List Attribute) → More g (start n foreign attributes ∷ w)
-  start_case w more n foreign [] before previous path at p b a (f, o) (e, i, (rest, is, way)) = by_edge foreign a f o way (start_edge_is n _ (is_firm previous n) (may_close_itself foreign w) (state at p) e i)
+  start_case w more n foreign [] before previous path at p b a (f, o) (e, i, (rest, is, way)) = by_edge foreign a f o way (start_edge_is n _ (is_required_after_omission previous n) (may_close_itself foreign w) (state at p) e i)
     where
       by_edge : (foreign : Bool) → Agrees g.table before previous path at p (start n foreign [] ∷ w) → StartFits n foreign [] path → InOrder (element n foreign ∷ path) w → Way (edges_of g) (units_from g.rules (Some (start n foreign [])) (element n foreign ∷ path) w) e.to rest
-          → IsStartEdge n (g.rules.omit && (not foreign && start_falls g.rules.frame n w)) (is_firm previous n) (may_close_itself foreign w) (state at p) e → Spells g before path p (start n foreign [] ∷ w) b
+          → IsStartEdge n (g.rules.omit && (not foreign && start_falls g.rules.frame n w)) (is_required_after_omission previous n) (may_close_itself foreign w) (state at p) e → Spells g before path p (start n foreign [] ∷ w) b
       by_edge false a f o way (edges.leaves_out omits free same) =
           let two = and_parts g.rules.omit (start_falls g.rules.frame n w) omits in
           start_omitted w more n [] before previous path at p b refl a f o two.0 two.1 free
-          (subst (λ x. Way (edges_of g) (units_from g.rules (Some (start n false [])) (element n false ∷ path) w) (state (unloosed at) p) x) (sym (is ∙ ap (λ x. x.bytes ++ rest) same))
+          (subst (λ x. Way (edges_of g) (units_from g.rules (Some (start n false [])) (element n false ∷ path) w) (state (omission_forgotten at) p) x) (sym (is ∙ ap (λ x. x.bytes ++ rest) same))
           (subst (λ x. Way (edges_of g) (units_from g.rules (Some (start n false [])) (element n false ∷ path) w) x.to rest) same way))
       by_edge true a f o way (edges.leaves_out omits free same) = absurd (let two = and_parts g.rules.omit false omits in cc)
       by_edge foreign a f o way (edges.writes same) =
@@ -163,12 +163,12 @@ module _ (g : Spelling) (table : IsTable g.table) where
       record { spells = (forms.written, end_bytes n, rest, is, (h, end_spelled n f.placed.low), m.spells); kept = markup_keeps g.table table path p b a.fits (_, is) }
 
   end_omits : (w : List Event) → More g w → (n : List ℕ) (before : Before) (previous : Previous) (path : List Element) (at : Where) (p : Pending) (b : List ℕ) → EndFits n false path → has_no_end_tag before n false ≡ false → is_self_closed at ≡ false
-      → may_omit_end g.rules n false (outer path) w ≡ true → Agrees g.table before previous path at p (end n false ∷ w) → InOrder (outer path) w → (l : Bool) → is_loose_end n ≡ l
+      → may_omit_end g.rules n false (outer path) w ≡ true → Agrees g.table before previous path at p (end n false ∷ w) → InOrder (outer path) w → (l : Bool) → is_omission_noted n ≡ l
       → Way (edges_of g) (units_from g.rules (Some (end n false)) (outer path) w) (after_left_out l (state at p)) b → Spells g before path p (end n false ∷ w) b
   end_omits w more n before previous path at p b f h c may a o true l way =
       let falls = (leaves_end g.rules n false (outer path) w may).falls in
-      let agrees = end_loosened g.table path n w f l falls in
-      let m = more (end_omitted n) (Some (end n false)) (outer path) loose nothing b agrees o way in
+      let agrees = omission_noted g.table path n w f l falls in
+      let m = more (end_omitted n) (Some (end n false)) (outer path) after_omitted_end nothing b agrees o way in
       record {
         spells = (forms.omitted, [], b, refl, (refl, h, may), m.spells);
         kept = markup_keeps g.table table path p b a.fits (table_markup g n (outer path) w b (f.placed.in_table refl l) (loose_goes n (current (outer path)) w l falls) o m.spells);
@@ -183,25 +183,25 @@ module _ (g : Spelling) (table : IsTable g.table) where
 
   end_tag_case : (w : List Event) → More g w → (n : List ℕ) (foreign : Bool) (before : Before) (previous : Previous) (path : List Element) (at : Where) (p : Pending) (b : List ℕ) → not foreign && is_void n ≡ false
       → Agrees g.table before previous path at p (end n foreign ∷ w) → EndFits n foreign path → InOrder (outer path) w
-      → Way (edges_of g) (end_tag n (may_omit_end g.rules n foreign (outer path) w) (is_loose_end n) ∷ units_from g.rules (Some (end n foreign)) (outer path) w) (state at p) b → Spells g before path p (end n foreign ∷ w) b
-  end_tag_case w more n foreign before previous path at p b v a f o (e, i, (rest, is, way)) = by_edge (end_edge_is n _ (is_loose_end n) (state at p) e i)
+      → Way (edges_of g) (end_tag n (may_omit_end g.rules n foreign (outer path) w) (is_omission_noted n) ∷ units_from g.rules (Some (end n foreign)) (outer path) w) (state at p) b → Spells g before path p (end n foreign ∷ w) b
+  end_tag_case w more n foreign before previous path at p b v a f o (e, i, (rest, is, way)) = by_edge (end_edge_is n _ (is_omission_noted n) (state at p) e i)
     where
       none : is_self_closed at ≡ false → has_no_end_tag before n foreign ≡ false
       none c = rw (a.self, c, v) refl
 
       by_kind : (foreign : Bool) → has_no_end_tag before n foreign ≡ false → is_self_closed at ≡ false → may_omit_end g.rules n foreign (outer path) w ≡ true → Agrees g.table before previous path at p (end n foreign ∷ w) → EndFits n foreign path
-          → Way (edges_of g) (units_from g.rules (Some (end n foreign)) (outer path) w) (after_left_out (is_loose_end n) (state at p)) b → Spells g before path p (end n foreign ∷ w) b
+          → Way (edges_of g) (units_from g.rules (Some (end n foreign)) (outer path) w) (after_left_out (is_omission_noted n) (state at p)) b → Spells g before path p (end n foreign ∷ w) b
       by_kind true h c may a f way = absurd (let k = (leaves_end g.rules n true (outer path) w may).kind in cc)
-      by_kind false h c may a f way = end_omits w more n before previous path at p b f h c may a o (is_loose_end n) refl way
+      by_kind false h c may a f way = end_omits w more n before previous path at p b f h c may a o (is_omission_noted n) refl way
 
-      by_edge : IsEndEdge n (may_omit_end g.rules n foreign (outer path) w) (is_loose_end n) (state at p) e → Spells g before path p (end n foreign ∷ w) b
+      by_edge : IsEndEdge n (may_omit_end g.rules n foreign (outer path) w) (is_omission_noted n) (state at p) e → Spells g before path p (end n foreign ∷ w) b
       by_edge (closed c same) =
           end_self w more n foreign before previous path at p b c a o
           (subst (λ x. Way (edges_of g) (units_from g.rules (Some (end n foreign)) (outer path) w) first_state x) (sym (is ∙ ap (λ x. x.bytes ++ rest) same))
           (subst (λ x. Way (edges_of g) (units_from g.rules (Some (end n foreign)) (outer path) w) x.to rest) same way))
       by_edge (edges.leaves_out c may same) =
           by_kind foreign (none c) c may a f
-          (subst (λ x. Way (edges_of g) (units_from g.rules (Some (end n foreign)) (outer path) w) (after_left_out (is_loose_end n) (state at p)) x) (sym (is ∙ ap (λ x. x.bytes ++ rest) same))
+          (subst (λ x. Way (edges_of g) (units_from g.rules (Some (end n foreign)) (outer path) w) (after_left_out (is_omission_noted n) (state at p)) x) (sym (is ∙ ap (λ x. x.bytes ++ rest) same))
           (subst (λ x. Way (edges_of g) (units_from g.rules (Some (end n foreign)) (outer path) w) x.to rest) same way))
       by_edge (edges.writes c same) =
           end_written w more n foreign before previous path at p b rest f (none c) a o (is ∙ ap (λ x. x.bytes ++ rest) same)
@@ -214,7 +214,7 @@ module _ (g : Spelling) (table : IsTable g.table) where
       by_kind true v a f way = absurd (cc)
       by_kind false v a f way = end_absent w more n before previous path at p b f v a o way
 
-      by_void : (v : Bool) → not foreign && is_void n ≡ v → Way (edges_of g) (cond v [] (end_tag n (may_omit_end g.rules n foreign (outer path) w) (is_loose_end n) ∷ []) ++ units_from g.rules (Some (end n foreign)) (outer path) w) (state at p) b → Spells g before path p (end n foreign ∷ w) b
+      by_void : (v : Bool) → not foreign && is_void n ≡ v → Way (edges_of g) (cond v [] (end_tag n (may_omit_end g.rules n foreign (outer path) w) (is_omission_noted n) ∷ []) ++ units_from g.rules (Some (end n foreign)) (outer path) w) (state at p) b → Spells g before path p (end n foreign ∷ w) b
       by_void true v way = by_kind foreign v a f way
       by_void false v way = end_tag_case w more n foreign before previous path at p b v a f o way
 

@@ -10,7 +10,7 @@ use Rattle.hm_elements.proofs.TableFacts.{start_cases}
 use Rattle.hm_elements.proofs.TableTools.{entry_passes, same_bytes}
 use Rattle.hm_elements.proofs.UpFacts.{left_open_holds}
 use Rattle.hm_spelling_spec.specs.Omission.{begins_child_of, end_falls, end_goes, start_falls}
-use Rattle.hm_graph_laws.specs.Units.{is_loose_end}
+use Rattle.hm_graph_laws.specs.Units.{is_omission_noted}
 
 abbrev pub begins_tag : List Event → Bool
 begins_tag w = begins_start w || begins_end w
@@ -70,12 +70,12 @@ start_open frame n w h = by_kind (start_left_out frame n w h)
 
 -- ---- ends that are left out
 
-frame_names : (is_loose_end html ≡ false) × (is_loose_end body ≡ false) × (is_loose_end head ≡ false) × (is_loose_end table ≡ false)
+frame_names : (is_omission_noted html ≡ false) × (is_omission_noted body ≡ false) × (is_omission_noted head ≡ false) × (is_omission_noted table ≡ false)
 unfolding is_section sections is_among
 frame_names = (refl, refl, refl, refl)
 
-other_name : (n m : List ℕ) → is_loose_end n ≡ true → is_loose_end m ≡ false → bytes_eq n m ≡ false
-other_name n m h k = false_from_ne_true (bytes_eq n m) (λ e. both_ways (is_loose_end m) k (subst (λ x. is_loose_end x ≡ true) (same_bytes n m e) h))
+other_name : (n m : List ℕ) → is_omission_noted n ≡ true → is_omission_noted m ≡ false → bytes_eq n m ≡ false
+other_name n m h k = false_from_ne_true (bytes_eq n m) (λ e. both_ways (is_omission_noted m) k (subst (λ x. is_omission_noted x ≡ true) (same_bytes n m e) h))
 
 goes_tag : (n parent : List ℕ) (w : List Event) → end_goes n parent w ≡ true → begins_tag w ≡ true
 goes_tag n parent [] h = absurd (cc)
@@ -86,7 +86,7 @@ goes_tag n parent (start m foreign attributes ∷ w) h = refl
 goes_tag n parent (end m foreign ∷ w) h = refl
 
 -- after an end of a section or of colgroup that is left out a tag follows
-pub loose_goes : (n parent : List ℕ) (w : List Event) → is_loose_end n ≡ true → end_falls n parent w ≡ true → begins_tag w ≡ true
+pub loose_goes : (n parent : List ℕ) (w : List Event) → is_omission_noted n ≡ true → end_falls n parent w ≡ true → begins_tag w ≡ true
 unfolding end_falls
 loose_goes n parent w l h = goes_tag n parent w (rw (other_name n html l frame_names.0, other_name n body l frame_names.1, other_name n head l frame_names.2) at h)
 
@@ -134,7 +134,7 @@ end_open n parent w h = by_names (bytes_eq n html) (bytes_eq n body) (bytes_eq n
 -- ---- void elements
 
 abbrev is_plain_void : List ℕ → Bool
-is_plain_void n = not (is_loose_end n) && not (holds_text n)
+is_plain_void n = not (is_omission_noted n) && not (holds_text n)
 
 voids_plain : (list_all is_plain_void voids ≡ true) × (is_void table ≡ false)
 unfolding is_void voids is_section sections holds_text is_raw raw_names is_rcdata rcdata_names is_among
@@ -143,15 +143,15 @@ voids_plain = (refl, refl)
 pub table_not_void : is_void table ≡ false
 table_not_void = voids_plain.1
 
-pub void_plain : (n : List ℕ) → is_void n ≡ true → (is_loose_end n ≡ false) × (holds_text n ≡ false)
+pub void_plain : (n : List ℕ) → is_void n ≡ true → (is_omission_noted n ≡ false) × (holds_text n ≡ false)
 unfolding is_void
 void_plain n h =
-    let two = and_parts (not (is_loose_end n)) (not (holds_text n)) (entry_passes is_plain_void n voids voids_plain.0 h) in
-    (not-true (is_loose_end n) two.0, not-true (holds_text n) two.1)
+    let two = and_parts (not (is_omission_noted n)) (not (holds_text n)) (entry_passes is_plain_void n voids voids_plain.0 h) in
+    (not-true (is_omission_noted n) two.0, not-true (holds_text n) two.1)
 
 -- ---- what bars a start
 
-pub bars_nothing : (n m : List ℕ) → is_loose_end n ≡ false → start_tag_required_after n m ≡ false
+pub bars_nothing : (n m : List ℕ) → is_omission_noted n ≡ false → start_tag_required_after n m ≡ false
 unfolding start_tag_required_after
 bars_nothing n m h = by_tests (is_section n) (bytes_eq n colgroup) (bytes_eq m tbody) (bytes_eq m colgroup) h
   where

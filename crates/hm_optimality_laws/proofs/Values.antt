@@ -6,7 +6,7 @@ use Rattle.hm_elements.specs.Paths.{outer}
 use Rattle.hm_elements.specs.Tables.{is_void}
 use Rattle.hm_spelling_spec.specs.Omission.{may_omit_end}
 use Rattle.hm_spelling_spec.specs.Spellings.{wants_line_feed, opening, other}
-use Rattle.hm_graph_laws.specs.Units.{Unit, TextKind, fixed, start_tag, tag_name, bare_attribute, attribute_name, character, attribute_end, tag_close, end_tag, character_units, attribute_units, start_units, end_units, text_units, line_feed_units, is_after_start, is_loose_end, may_close_itself, kind_of, Previous, units_from, in_value}
+use Rattle.hm_graph_laws.specs.Units.{Unit, TextKind, fixed, start_tag, tag_name, bare_attribute, attribute_name, character, attribute_end, tag_close, end_tag, character_units, attribute_units, start_units, end_units, text_units, line_feed_units, is_after_start, is_omission_noted, may_close_itself, kind_of, Previous, units_from, in_value}
 use Rattle.hm_optimality_laws.specs.Forms.{value_and}
 use Rattle.hm_optimality_laws.specs.SparseLaws.{HaveValues, IsFollowed, TreesHaveValues}
 
@@ -15,14 +15,14 @@ value_append v rest us = append_assoc (character_units in_value v) (attribute_en
 
 followed_append : (x : Unit) (xs us : List Unit) → IsFollowed x xs → IsFollowed x (xs ++ us)
 followed_append (fixed b) xs us h = tt
-followed_append (start_tag n omits firm closes) xs us h = tt
+followed_append (start_tag n omits required_after_omission closes) xs us h = tt
 followed_append (tag_name n) xs us h = tt
 followed_append (bare_attribute n) xs us h = tt
 followed_append (attribute_name n v) xs us (rest, is) = (rest ++ us, ap (λ ys. ys ++ us) is ∙ value_append v rest us)
 followed_append (character kind c next) xs us h = tt
 followed_append attribute_end xs us h = tt
 followed_append (tag_close closes) xs us h = tt
-followed_append (end_tag n omits loosens) xs us h = tt
+followed_append (end_tag n omits notes_omission) xs us h = tt
 
 join : (xs us : List Unit) → HaveValues xs → HaveValues us → HaveValues (xs ++ us)
 join [] us a b = b
@@ -60,7 +60,7 @@ in_text previous path s false =
 in_end : (r : SpellRules) (n : List ℕ) (foreign : Bool) (path : List Element) (w : List Event) → HaveValues (end_units r n foreign path w)
 in_end r n foreign path w = by (not foreign && is_void n)
   where
-    by : (b : Bool) → HaveValues (cond b [] (end_tag n (may_omit_end r n foreign path w) (is_loose_end n) ∷ []))
+    by : (b : Bool) → HaveValues (cond b [] (end_tag n (may_omit_end r n foreign path w) (is_omission_noted n) ∷ []))
     by true = tt
     by false = (tt, tt)
 

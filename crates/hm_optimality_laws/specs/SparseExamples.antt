@@ -13,7 +13,7 @@ use Rattle.hm_graph_laws.specs.AttributeEdges.{opening_edges}
 use Rattle.hm_graph_laws.specs.Edges.{Edge, edge}
 use Rattle.hm_refs.specs.Examples.{seven}
 use Rattle.hm_refs.specs.Names.{Entry}
-use Rattle.hm_graph_laws.specs.States.{first_state, same_state, state, after_name, in_double, in_single, in_unquoted, outside, loose, in_section, nothing, less_than, decimal, half, two_brackets}
+use Rattle.hm_graph_laws.specs.States.{first_state, same_state, state, after_name, in_double, in_single, in_unquoted, outside, after_omitted_end, in_section, nothing, less_than, decimal, half, two_brackets}
 use Rattle.hm_graph_laws.specs.Units.{attribute_end, attribute_name, character, in_foreign, in_text, start_tag}
 
 -- a plain character stands as itself
@@ -42,7 +42,7 @@ unfolding same_state
 of_start_tag_after_number = refl
 
 -- a layer is left out where no state has a choice, however many states there are
-pub two_forced : forced_follows (sparse (dominance []) (λ unit s. start_edges (codes "p") true false false s)) attribute_end (first_state ∷ state loose nothing ∷ []) ≡ true
+pub two_forced : forced_follows (sparse (dominance []) (λ unit s. start_edges (codes "p") true false false s)) attribute_end (first_state ∷ state after_omitted_end nothing ∷ []) ≡ true
 unfolding same_state
 two_forced = refl
 

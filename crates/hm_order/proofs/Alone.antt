@@ -8,7 +8,7 @@ use Rattle.hm_elements.specs.Tables.{is_void, voids}
 use Rattle.hm_graph_laws.specs.AttributeEdges.{gap_at}
 use Rattle.hm_graph_laws.specs.States.{first_state, in_unquoted, in_double, in_single}
 use Rattle.hm_graph_laws.specs.UnitEdges.{edges_of}
-use Rattle.hm_graph_laws.specs.Units.{Unit, attribute_units, end_tag, is_loose_end, tag_close, tag_name, units_of}
+use Rattle.hm_graph_laws.specs.Units.{Unit, attribute_units, end_tag, is_omission_noted, tag_close, tag_name, units_of}
 use Rattle.hm_graph_laws.specs.Ways.{least, lesser, over}
 use Rattle.hm_optimality_laws.specs.SpellingLaws.{SparesOnlyPlain}
 use Rattle.hm_spelling_spec.specs.Omission.{may_omit_end}
@@ -64,11 +64,11 @@ told_is n m h = by (n == 18446744073709551615) h
 -- the end tag after a tag that stands alone, which an element of HTML doesn't have
 abbrev after_alone : SpellRules → Bool → List Unit
 after_alone r false = []
-after_alone r true = end_tag (element_alone true) (may_omit_end r (element_alone true) true [] []) (is_loose_end (element_alone true)) ∷ []
+after_alone r true = end_tag (element_alone true) (may_omit_end r (element_alone true) true [] []) (is_omission_noted (element_alone true)) ∷ []
 
 closes_alone : (r : SpellRules) (closes : Bool) → ClosesBefore closes (after_alone r closes)
 closes_alone r false = tt
-closes_alone r true = (element_alone true, is_loose_end (element_alone true), [], ap (λ o. end_tag (element_alone true) o (is_loose_end (element_alone true)) ∷ []) (never r (element_alone true) [] []))
+closes_alone r true = (element_alone true, is_omission_noted (element_alone true), [], ap (λ o. end_tag (element_alone true) o (is_omission_noted (element_alone true)) ∷ []) (never r (element_alone true) [] []))
 
 no_end_tag : is_void (element_alone false) ≡ true
 unfolding is_void is_among voids
@@ -84,7 +84,7 @@ price_by g true a = ap (λ us. least (edges_of g) us first_state) (units_alone g
 
 close_alone : (g : Spelling) (closes : Bool) → over (length (element_alone closes) + 2) (close_cost g closes (after_alone g.rules closes)) ≡ Some 5
 close_alone g false = refl
-close_alone g true = ap (λ us. over 3 (close_cost g true us)) (ap (λ o. end_tag (element_alone true) o (is_loose_end (element_alone true)) ∷ []) (never g.rules (element_alone true) [] []))
+close_alone g true = ap (λ us. over 3 (close_cost g true us)) (ap (λ o. end_tag (element_alone true) o (is_omission_noted (element_alone true)) ∷ []) (never g.rules (element_alone true) [] []))
 
 sum_five : (k l : ℕ) (close : Option ℕ) → over k close ≡ Some 5 → over k (plus (Some l) close) ≡ Some (l + 5)
 sum_five k l None h = cc

@@ -7,7 +7,7 @@ use Rattle.hm_graph_laws.specs.Ways.{Way, over}
 use Rattle.hm_graph_laws.proofs.LeastPrices.{least_number}
 use Rattle.hm_spelling_spec.specs.Tags.{Spelling}
 use Rattle.hm_graph_laws.specs.States.{first_state}
-use Rattle.hm_graph_laws.specs.Units.{Unit, tag_name, attribute_units, tag_close, end_tag, is_loose_end}
+use Rattle.hm_graph_laws.specs.Units.{Unit, tag_name, attribute_units, tag_close, end_tag, is_omission_noted}
 use Rattle.hm_spelling_spec.specs.Omission.{may_omit_end}
 use Rattle.hm_optimality_laws.specs.SpellingLaws.{SparesOnlyPlain}
 use Rattle.hm_optimality_laws.proofs.Direct.{trees_have_ways}
@@ -54,7 +54,7 @@ tag_costs g plain false a b =
     of_tag g false a b [] tt bytes way
 tag_costs g plain true a b =
     let (bytes, way) = trees_have_ways g plain (start [] true (a ∷ b ∷ []) ∷ end [] true ∷ []) in
-    of_tag g true a b (end_tag [] (may_omit_end g.rules [] true [] []) (is_loose_end []) ∷ []) ([], is_loose_end [], [], ap (λ o. end_tag [] o (is_loose_end []) ∷ []) (never g.rules [] [] [])) bytes way
+    of_tag g true a b (end_tag [] (may_omit_end g.rules [] true [] []) (is_omission_noted []) ∷ []) ([], is_omission_noted [], [], ap (λ o. end_tag [] o (is_omission_noted []) ∷ []) (never g.rules [] [] [])) bytes way
 
 -- what each attribute costs
 pub inner_of : (g : Spelling) → SparesOnlyPlain g → Bool → Attribute → ℕ

@@ -38,7 +38,7 @@ extra closes at = cond (closes && is_after_unquoted at) 1 0
 
 closed_after : (g : Spelling) (closes : Bool) (rest : List Unit) → ClosesBefore closes rest → WrittenAfter g (tag_close closes ∷ rest) (extra closes) (close_cost g closes rest)
 closed_after g false rest h = record { at = λ at tag. lesser_none (over 1 (least (edges_of g) rest first_state)) ∙ over_zero (over 1 (least (edges_of g) rest first_state)) }
-closed_after g true rest (n, loosens, more, is) = record { at = λ at tag. rw is (by at tag) }
+closed_after g true rest (n, notes_omission, more, is) = record { at = λ at tag. rw is (by at tag) }
   where
     m : Option ℕ
     m = least (edges_of g) more first_state

@@ -14,7 +14,7 @@ use Rattle.hm_spelling_spec.specs.Omission.{start_falls, may_omit_end, end_falls
 use Rattle.hm_spelling_spec.specs.Tags.{Spelling}
 use Rattle.hm_graph_laws.specs.Edges.{Edge, edge_length}
 use Rattle.hm_graph_laws.specs.States.{State, state, self_closed, nothing, first_state}
-use Rattle.hm_graph_laws.specs.Units.{Unit, fixed, end_tag, tag_close, tag_name, attribute_units, start_units, end_units, text_units, doctype_bytes, may_close_itself, is_firm, is_after_start, is_loose_end, units_from, Previous}
+use Rattle.hm_graph_laws.specs.Units.{Unit, fixed, end_tag, tag_close, tag_name, attribute_units, start_units, end_units, text_units, doctype_bytes, may_close_itself, is_required_after_omission, is_after_start, is_omission_noted, units_from, Previous}
 use Rattle.hm_optimality_laws.specs.SpellingLaws.{SparesOnlyPlain}
 use Rattle.hm_order.specs.Costs.{plus}
 use Rattle.hm_order.specs.Laws.{close_cost, ClosesBefore}
@@ -142,7 +142,7 @@ matches_bare (e ∷ path) (comment s ∷ w) = matches_bare (e ∷ path) w
 -- ---- What is asked of the event before
 
 abbrev pub SamePrevious : Previous → Previous → Type 0
-SamePrevious p q = ((n : List ℕ) → is_firm p n ≡ is_firm q n) × (is_after_start p ≡ is_after_start q)
+SamePrevious p q = ((n : List ℕ) → is_required_after_omission p n ≡ is_required_after_omission q n) × (is_after_start p ≡ is_after_start q)
 
 pub same_previous : (p : Previous) → SamePrevious p p
 same_previous p = ((λ n. refl), refl)
@@ -165,7 +165,7 @@ closes_before r previous n true path (text s raw ∷ u) m true h = cc
 closes_before r previous n true path (comment s ∷ u) m true h = cc
 closes_before r previous n true path (end k false ∷ u) m true h = absurd (let no : false ≡ true = (and_parts (bytes_eq n k) false (and_parts (is_same_element (record { name = n; foreign = true }) k false) (ends_match path u) m).0).1 in cc)
 closes_before r previous n true path (end k true ∷ u) m true h =
-    (k, is_loose_end k, units_from r (Some (end k true)) path u, ap (λ o. end_tag k o (is_loose_end k) ∷ units_from r (Some (end k true)) path u) (never r k path u))
+    (k, is_omission_noted k, units_from r (Some (end k true)) path u, ap (λ o. end_tag k o (is_omission_noted k) ∷ units_from r (Some (end k true)) path u) (never r k path u))
 
 close_no_more : (g : Spelling) (c : Bool) (us vs : List Unit) → NoMoreUnits (edges_of g) us vs → NoMore (close_cost g c us) (close_cost g c vs)
 close_no_more g true us vs h = over_no_more 2 (least (edges_of g) us (state self_closed nothing)) (least (edges_of g) vs (state self_closed nothing)) (h (state self_closed nothing))

@@ -22,7 +22,7 @@ close_cost g closes rest = if closes then over 2 (least (edges_of g) rest (state
 -- an element that may close itself has an end tag that isn't left out
 abbrev pub ClosesBefore : Bool → List Unit → Type 0
 ClosesBefore false rest = Prim.Unit {0}
-ClosesBefore true rest = (n : List ℕ) × (loosens : Bool) × (more : List Unit) × (rest ≡ end_tag n false loosens ∷ more)
+ClosesBefore true rest = (n : List ℕ) × (notes_omission : Bool) × (more : List Unit) × (rest ≡ end_tag n false notes_omission ∷ more)
 
 -- '<' and the name, a gap, the attributes, and what doesn't depend on their order
 abbrev pub TagsSplit : Type 0

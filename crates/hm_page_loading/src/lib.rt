@@ -8,5 +8,5 @@ mod spaced;
 
 pub use fault::PageLoadFault;
 // Handed on from crates/hm_build/src, for hm_input and hm_piece_cases, which don't list that crate.
-pub use hm_build::{Builder, parse, parse_closed};
+pub use hm_build::{PageParser, parse, parse_closed};
 pub use page::load_page;

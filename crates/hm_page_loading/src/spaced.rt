@@ -7,7 +7,7 @@ ghost use Rattle.hm_build.specs.Parsing.{IsRefusedAs};
 ghost use Rattle.hm_page_loading.specs.Spacing.{HasTaken, IsSpaced};
 
 use hm_base::{OUTPUT_LIMIT, OutOfMemory, Refused};
-use hm_build::Builder;
+use hm_build::PageParser;
 use hm_refs::Table;
 use hm_tree::Tree;
 use std::alloc::Global;
@@ -23,7 +23,7 @@ const SPACING: usize = 3;
 /// and its pieces are. At the end what is kept is read once or twice more.
 #[derive(Drop)]
 pub struct SpacedBuilder<'t> {
-    builder: Builder<'t>,
+    builder: PageParser<'t>,
     /// How many bytes of the text were kept by the last scan.
     kept: u32,
     /// How many bytes of the page were read since then.
@@ -52,7 +52,7 @@ impl<'t> SpacedBuilder<'t> {
         ensures names { IfOk result (λ builder. builder.feeding.names ≡ table.now.entries) }
         ensures limit { IfOk result (λ builder. builder.feeding.pieces.limit ≡ limit) }
     {
-        let builder = Builder::new(alloc, table, limit)?;
+        let builder = PageParser::new(alloc, table, limit)?;
         let kept = builder.kept();
         Ok(SpacedBuilder {
             builder,

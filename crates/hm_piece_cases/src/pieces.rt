@@ -2,7 +2,7 @@
 ghost use Rattle.std.specs.Prelude.{◌≤◌};
 
 use hm_base::{OutOfMemory, PAGE_LIMIT, Refused, SourceText};
-use hm_page_loading::{Builder, parse};
+use hm_page_loading::{PageParser, parse};
 use hm_refs::Table;
 use hm_tree::Tree;
 use std::alloc::Global;
@@ -46,7 +46,7 @@ fn of_whole(alloc: Global, table: &Table, page: &[u8]) -> Result<Tree, Refused> 
 
 /// What a page gives in pieces.
 fn of_pieces(alloc: Global, table: &Table, page: &[u8], cutting: Cutting) -> Result<Tree, Refused> {
-    let mut builder = match Builder::new(alloc, table, PAGE_LIMIT) {
+    let mut builder = match PageParser::new(alloc, table, PAGE_LIMIT) {
         Ok(builder) => builder,
         Err(OutOfMemory) => return Err(Refused::OutOfMemory),
     };

@@ -1,14 +1,14 @@
 //! How many elements are open after each piece of a page.
 use crate::kept;
 use hm_base::PAGE_LIMIT;
-use hm_page_loading::Builder;
+use hm_page_loading::PageParser;
 use hm_refs::Table;
 use std::alloc::Global;
 use std::io;
 
 /// Whether this many elements are open after each piece.
 fn has_depths(alloc: Global, table: &Table, pieces: &[&[u8]], depths: &[u32]) -> io::Result<bool> {
-    let mut builder = kept(Builder::new(alloc, table, PAGE_LIMIT))?;
+    let mut builder = kept(PageParser::new(alloc, table, PAGE_LIMIT))?;
     let mut wanted = depths.iter();
     for piece in pieces {
         kept(builder.feed(piece))?;

@@ -147,30 +147,30 @@ const TEXTS_AND_ATTRIBUTES_PARTS: &str = "\
     Chars { kind: Value, text: \"x\" }\n\
     One { unit: AttributeEnd, own: \"\" }\n\
     One { unit: TagClose { closes: false }, own: \"\" }\n\
-    One { unit: StartTag { len: 3, omits: false, firm: false, closes: false }, own: \"pre\" }\n\
+    One { unit: StartTag { len: 3, omits: false, required_after_omission: false, closes: false }, own: \"pre\" }\n\
     One { unit: Fixed { len: 1 }, own: \"\\n\" }\n\
     Chars { kind: Text, text: \"\\na\" }\n\
-    One { unit: StartTag { len: 2, omits: false, firm: false, closes: false }, own: \"br\" }\n\
-    One { unit: EndTag { len: 3, omits: false, loosens: false }, own: \"pre\" }\n\
+    One { unit: StartTag { len: 2, omits: false, required_after_omission: false, closes: false }, own: \"br\" }\n\
+    One { unit: EndTag { len: 3, omits: false, notes_omission: false }, own: \"pre\" }\n\
     One { unit: TagName { len: 1 }, own: \"p\" }\n\
     One { unit: BareAttribute { len: 6 }, own: \"hidden\" }\n\
     One { unit: TagClose { closes: false }, own: \"\" }\n\
-    One { unit: EndTag { len: 1, omits: true, loosens: false }, own: \"p\" }\n\
-    One { unit: EndTag { len: 3, omits: false, loosens: false }, own: \"div\" }\n";
+    One { unit: EndTag { len: 1, omits: true, notes_omission: false }, own: \"p\" }\n\
+    One { unit: EndTag { len: 3, omits: false, notes_omission: false }, own: \"div\" }\n";
 
 /// Two sections of a table, the first one empty: both end tags may be omitted, and then the second start tag may not.
 const SECTIONS: &str = "start table|start thead|end|start tbody|start tr|end|end|end|";
 
 /// The parts of its events.
 const SECTIONS_PARTS: &str = "\
-    One { unit: StartTag { len: 5, omits: false, firm: false, closes: false }, own: \"table\" }\n\
-    One { unit: StartTag { len: 5, omits: false, firm: false, closes: false }, own: \"thead\" }\n\
-    One { unit: EndTag { len: 5, omits: true, loosens: true }, own: \"thead\" }\n\
-    One { unit: StartTag { len: 5, omits: true, firm: true, closes: false }, own: \"tbody\" }\n\
-    One { unit: StartTag { len: 2, omits: false, firm: false, closes: false }, own: \"tr\" }\n\
-    One { unit: EndTag { len: 2, omits: true, loosens: false }, own: \"tr\" }\n\
-    One { unit: EndTag { len: 5, omits: true, loosens: true }, own: \"tbody\" }\n\
-    One { unit: EndTag { len: 5, omits: false, loosens: false }, own: \"table\" }\n";
+    One { unit: StartTag { len: 5, omits: false, required_after_omission: false, closes: false }, own: \"table\" }\n\
+    One { unit: StartTag { len: 5, omits: false, required_after_omission: false, closes: false }, own: \"thead\" }\n\
+    One { unit: EndTag { len: 5, omits: true, notes_omission: true }, own: \"thead\" }\n\
+    One { unit: StartTag { len: 5, omits: true, required_after_omission: true, closes: false }, own: \"tbody\" }\n\
+    One { unit: StartTag { len: 2, omits: false, required_after_omission: false, closes: false }, own: \"tr\" }\n\
+    One { unit: EndTag { len: 2, omits: true, notes_omission: false }, own: \"tr\" }\n\
+    One { unit: EndTag { len: 5, omits: true, notes_omission: true }, own: \"tbody\" }\n\
+    One { unit: EndTag { len: 5, omits: false, notes_omission: false }, own: \"table\" }\n";
 
 /// `<table><thead><tr><td>a</td></tr></thead><tbody><tr><td>b</td></tr></tbody></table>`: the start tag of the second
 /// section may be omitted, but not if the end tag of the first one is.
@@ -179,22 +179,22 @@ const SECOND_SECTION: &str =
 
 /// The parts of its events.
 const SECOND_SECTION_PARTS: &str = "\
-    One { unit: StartTag { len: 5, omits: false, firm: false, closes: false }, own: \"table\" }\n\
-    One { unit: StartTag { len: 5, omits: false, firm: false, closes: false }, own: \"thead\" }\n\
-    One { unit: StartTag { len: 2, omits: false, firm: false, closes: false }, own: \"tr\" }\n\
-    One { unit: StartTag { len: 2, omits: false, firm: false, closes: false }, own: \"td\" }\n\
+    One { unit: StartTag { len: 5, omits: false, required_after_omission: false, closes: false }, own: \"table\" }\n\
+    One { unit: StartTag { len: 5, omits: false, required_after_omission: false, closes: false }, own: \"thead\" }\n\
+    One { unit: StartTag { len: 2, omits: false, required_after_omission: false, closes: false }, own: \"tr\" }\n\
+    One { unit: StartTag { len: 2, omits: false, required_after_omission: false, closes: false }, own: \"td\" }\n\
     Chars { kind: Text, text: \"a\" }\n\
-    One { unit: EndTag { len: 2, omits: true, loosens: false }, own: \"td\" }\n\
-    One { unit: EndTag { len: 2, omits: true, loosens: false }, own: \"tr\" }\n\
-    One { unit: EndTag { len: 5, omits: true, loosens: true }, own: \"thead\" }\n\
-    One { unit: StartTag { len: 5, omits: true, firm: true, closes: false }, own: \"tbody\" }\n\
-    One { unit: StartTag { len: 2, omits: false, firm: false, closes: false }, own: \"tr\" }\n\
-    One { unit: StartTag { len: 2, omits: false, firm: false, closes: false }, own: \"td\" }\n\
+    One { unit: EndTag { len: 2, omits: true, notes_omission: false }, own: \"td\" }\n\
+    One { unit: EndTag { len: 2, omits: true, notes_omission: false }, own: \"tr\" }\n\
+    One { unit: EndTag { len: 5, omits: true, notes_omission: true }, own: \"thead\" }\n\
+    One { unit: StartTag { len: 5, omits: true, required_after_omission: true, closes: false }, own: \"tbody\" }\n\
+    One { unit: StartTag { len: 2, omits: false, required_after_omission: false, closes: false }, own: \"tr\" }\n\
+    One { unit: StartTag { len: 2, omits: false, required_after_omission: false, closes: false }, own: \"td\" }\n\
     Chars { kind: Text, text: \"b\" }\n\
-    One { unit: EndTag { len: 2, omits: true, loosens: false }, own: \"td\" }\n\
-    One { unit: EndTag { len: 2, omits: true, loosens: false }, own: \"tr\" }\n\
-    One { unit: EndTag { len: 5, omits: true, loosens: true }, own: \"tbody\" }\n\
-    One { unit: EndTag { len: 5, omits: false, loosens: false }, own: \"table\" }\n";
+    One { unit: EndTag { len: 2, omits: true, notes_omission: false }, own: \"td\" }\n\
+    One { unit: EndTag { len: 2, omits: true, notes_omission: false }, own: \"tr\" }\n\
+    One { unit: EndTag { len: 5, omits: true, notes_omission: true }, own: \"tbody\" }\n\
+    One { unit: EndTag { len: 5, omits: false, notes_omission: false }, own: \"table\" }\n";
 
 /// `<table><caption>x</caption><script></script><tr><td>y</td></tr></table>`: a script after a caption keeps its end tag.
 const CAPTION_BEFORE_A_SCRIPT: &str =
@@ -202,31 +202,31 @@ const CAPTION_BEFORE_A_SCRIPT: &str =
 
 /// The parts of its events.
 const CAPTION_BEFORE_A_SCRIPT_PARTS: &str = "\
-    One { unit: StartTag { len: 5, omits: false, firm: false, closes: false }, own: \"table\" }\n\
-    One { unit: StartTag { len: 7, omits: false, firm: false, closes: false }, own: \"caption\" }\n\
+    One { unit: StartTag { len: 5, omits: false, required_after_omission: false, closes: false }, own: \"table\" }\n\
+    One { unit: StartTag { len: 7, omits: false, required_after_omission: false, closes: false }, own: \"caption\" }\n\
     Chars { kind: Text, text: \"x\" }\n\
-    One { unit: EndTag { len: 7, omits: false, loosens: false }, own: \"caption\" }\n\
-    One { unit: StartTag { len: 6, omits: false, firm: false, closes: false }, own: \"script\" }\n\
-    One { unit: EndTag { len: 6, omits: false, loosens: false }, own: \"script\" }\n\
-    One { unit: StartTag { len: 5, omits: true, firm: false, closes: false }, own: \"tbody\" }\n\
-    One { unit: StartTag { len: 2, omits: false, firm: false, closes: false }, own: \"tr\" }\n\
-    One { unit: StartTag { len: 2, omits: false, firm: false, closes: false }, own: \"td\" }\n\
+    One { unit: EndTag { len: 7, omits: false, notes_omission: false }, own: \"caption\" }\n\
+    One { unit: StartTag { len: 6, omits: false, required_after_omission: false, closes: false }, own: \"script\" }\n\
+    One { unit: EndTag { len: 6, omits: false, notes_omission: false }, own: \"script\" }\n\
+    One { unit: StartTag { len: 5, omits: true, required_after_omission: false, closes: false }, own: \"tbody\" }\n\
+    One { unit: StartTag { len: 2, omits: false, required_after_omission: false, closes: false }, own: \"tr\" }\n\
+    One { unit: StartTag { len: 2, omits: false, required_after_omission: false, closes: false }, own: \"td\" }\n\
     Chars { kind: Text, text: \"y\" }\n\
-    One { unit: EndTag { len: 2, omits: true, loosens: false }, own: \"td\" }\n\
-    One { unit: EndTag { len: 2, omits: true, loosens: false }, own: \"tr\" }\n\
-    One { unit: EndTag { len: 5, omits: true, loosens: true }, own: \"tbody\" }\n\
-    One { unit: EndTag { len: 5, omits: false, loosens: false }, own: \"table\" }\n";
+    One { unit: EndTag { len: 2, omits: true, notes_omission: false }, own: \"td\" }\n\
+    One { unit: EndTag { len: 2, omits: true, notes_omission: false }, own: \"tr\" }\n\
+    One { unit: EndTag { len: 5, omits: true, notes_omission: true }, own: \"tbody\" }\n\
+    One { unit: EndTag { len: 5, omits: false, notes_omission: false }, own: \"table\" }\n";
 
 /// `<span><p>x</p></span>`: a paragraph keeps its end tag in an element that may hold no other one after it.
 const PARAGRAPH_IN_A_SPAN: &str = "start span|start p|text x|end|end|";
 
 /// The parts of its events.
 const PARAGRAPH_IN_A_SPAN_PARTS: &str = "\
-    One { unit: StartTag { len: 4, omits: false, firm: false, closes: false }, own: \"span\" }\n\
-    One { unit: StartTag { len: 1, omits: false, firm: false, closes: false }, own: \"p\" }\n\
+    One { unit: StartTag { len: 4, omits: false, required_after_omission: false, closes: false }, own: \"span\" }\n\
+    One { unit: StartTag { len: 1, omits: false, required_after_omission: false, closes: false }, own: \"p\" }\n\
     Chars { kind: Text, text: \"x\" }\n\
-    One { unit: EndTag { len: 1, omits: false, loosens: false }, own: \"p\" }\n\
-    One { unit: EndTag { len: 4, omits: false, loosens: false }, own: \"span\" }\n";
+    One { unit: EndTag { len: 1, omits: false, notes_omission: false }, own: \"p\" }\n\
+    One { unit: EndTag { len: 4, omits: false, notes_omission: false }, own: \"span\" }\n";
 
 /// `<html><head></head><body><div><p>x</p></div><p>y</p></body></html>`: the end tags of both paragraphs may be
 /// omitted.
@@ -235,34 +235,34 @@ const PARAGRAPHS: &str =
 
 /// The parts of its events.
 const PARAGRAPHS_PARTS: &str = "\
-    One { unit: StartTag { len: 4, omits: true, firm: false, closes: false }, own: \"html\" }\n\
-    One { unit: StartTag { len: 4, omits: true, firm: false, closes: false }, own: \"head\" }\n\
-    One { unit: EndTag { len: 4, omits: true, loosens: false }, own: \"head\" }\n\
-    One { unit: StartTag { len: 4, omits: true, firm: false, closes: false }, own: \"body\" }\n\
-    One { unit: StartTag { len: 3, omits: false, firm: false, closes: false }, own: \"div\" }\n\
-    One { unit: StartTag { len: 1, omits: false, firm: false, closes: false }, own: \"p\" }\n\
+    One { unit: StartTag { len: 4, omits: true, required_after_omission: false, closes: false }, own: \"html\" }\n\
+    One { unit: StartTag { len: 4, omits: true, required_after_omission: false, closes: false }, own: \"head\" }\n\
+    One { unit: EndTag { len: 4, omits: true, notes_omission: false }, own: \"head\" }\n\
+    One { unit: StartTag { len: 4, omits: true, required_after_omission: false, closes: false }, own: \"body\" }\n\
+    One { unit: StartTag { len: 3, omits: false, required_after_omission: false, closes: false }, own: \"div\" }\n\
+    One { unit: StartTag { len: 1, omits: false, required_after_omission: false, closes: false }, own: \"p\" }\n\
     Chars { kind: Text, text: \"x\" }\n\
-    One { unit: EndTag { len: 1, omits: true, loosens: false }, own: \"p\" }\n\
-    One { unit: EndTag { len: 3, omits: false, loosens: false }, own: \"div\" }\n\
-    One { unit: StartTag { len: 1, omits: false, firm: false, closes: false }, own: \"p\" }\n\
+    One { unit: EndTag { len: 1, omits: true, notes_omission: false }, own: \"p\" }\n\
+    One { unit: EndTag { len: 3, omits: false, notes_omission: false }, own: \"div\" }\n\
+    One { unit: StartTag { len: 1, omits: false, required_after_omission: false, closes: false }, own: \"p\" }\n\
     Chars { kind: Text, text: \"y\" }\n\
-    One { unit: EndTag { len: 1, omits: true, loosens: false }, own: \"p\" }\n\
-    One { unit: EndTag { len: 4, omits: true, loosens: false }, own: \"body\" }\n\
-    One { unit: EndTag { len: 4, omits: true, loosens: false }, own: \"html\" }\n";
+    One { unit: EndTag { len: 1, omits: true, notes_omission: false }, own: \"p\" }\n\
+    One { unit: EndTag { len: 4, omits: true, notes_omission: false }, own: \"body\" }\n\
+    One { unit: EndTag { len: 4, omits: true, notes_omission: false }, own: \"html\" }\n";
 
 /// `<svg><path></path>a</svg><title>b</title>`: an element of SVG without content may close itself.
 const SVG: &str = "svg svg|svg path|end|text a|end|start title|text b|end|";
 
 /// The parts of its events.
 const SVG_PARTS: &str = "\
-    One { unit: StartTag { len: 3, omits: false, firm: false, closes: false }, own: \"svg\" }\n\
-    One { unit: StartTag { len: 4, omits: false, firm: false, closes: true }, own: \"path\" }\n\
-    One { unit: EndTag { len: 4, omits: false, loosens: false }, own: \"path\" }\n\
+    One { unit: StartTag { len: 3, omits: false, required_after_omission: false, closes: false }, own: \"svg\" }\n\
+    One { unit: StartTag { len: 4, omits: false, required_after_omission: false, closes: true }, own: \"path\" }\n\
+    One { unit: EndTag { len: 4, omits: false, notes_omission: false }, own: \"path\" }\n\
     Chars { kind: Foreign, text: \"a\" }\n\
-    One { unit: EndTag { len: 3, omits: false, loosens: false }, own: \"svg\" }\n\
-    One { unit: StartTag { len: 5, omits: false, firm: false, closes: false }, own: \"title\" }\n\
+    One { unit: EndTag { len: 3, omits: false, notes_omission: false }, own: \"svg\" }\n\
+    One { unit: StartTag { len: 5, omits: false, required_after_omission: false, closes: false }, own: \"title\" }\n\
     Chars { kind: Rcdata, text: \"b\" }\n\
-    One { unit: EndTag { len: 5, omits: false, loosens: false }, own: \"title\" }\n";
+    One { unit: EndTag { len: 5, omits: false, notes_omission: false }, own: \"title\" }\n";
 
 /// Asserts the parts of the events of the tree of these calls.
 fn expect_parts(rt: &impl Abort, alloc: Global, calls: &str, wanted: &str) {

@@ -17,8 +17,8 @@ returns-in-Fixed c =
 
 pub returns-in-StartTag : goal.returns-in-StartTag
 returns-in-StartTag c =
-    let f = found c.add_start_edges.result c.args.table.now c.args.rules c.args.unit (code.StartTag c.in-StartTag.len c.in-StartTag.omits c.in-StartTag.firm c.in-StartTag.closes) c.args.from c.clear.new.self.items c.add_start_edges.new.into.items c.in-StartTag.is c.clear.ensures.items
-    (of_start_tag c.args.table.now.entries c.in-StartTag.len c.in-StartTag.omits c.in-StartTag.firm c.in-StartTag.closes (AddsFor c.add_start_edges.result c.args.table.now c.args.rules (code.StartTag c.in-StartTag.len c.in-StartTag.omits c.in-StartTag.firm c.in-StartTag.closes) c.args.from c.clear.new.self.items c.add_start_edges.new.into.items) (λ n. c.add_start_edges.ensures c.args.table.now n c.requires))
+    let f = found c.add_start_edges.result c.args.table.now c.args.rules c.args.unit (code.StartTag c.in-StartTag.len c.in-StartTag.omits c.in-StartTag.required_after_omission c.in-StartTag.closes) c.args.from c.clear.new.self.items c.add_start_edges.new.into.items c.in-StartTag.is c.clear.ensures.items
+    (of_start_tag c.args.table.now.entries c.in-StartTag.len c.in-StartTag.omits c.in-StartTag.required_after_omission c.in-StartTag.closes (AddsFor c.add_start_edges.result c.args.table.now c.args.rules (code.StartTag c.in-StartTag.len c.in-StartTag.omits c.in-StartTag.required_after_omission c.in-StartTag.closes) c.args.from c.clear.new.self.items c.add_start_edges.new.into.items) (λ n. c.add_start_edges.ensures c.args.table.now n c.requires))
     ((c.add_start_edges.ensures c.args.table.now [] c.requires).known)
     in record { edges = f.edges; front = f.front; known = f.known }
 
@@ -66,7 +66,7 @@ returns-in-TagClose c =
 
 pub returns-in-EndTag : goal.returns-in-EndTag
 returns-in-EndTag c =
-    let f = found c.add_end_edges.result c.args.table.now c.args.rules c.args.unit (code.EndTag c.in-EndTag.len c.in-EndTag.omits c.in-EndTag.loosens) c.args.from c.clear.new.self.items c.add_end_edges.new.into.items c.in-EndTag.is c.clear.ensures.items
-    (of_end_tag c.args.table.now.entries c.in-EndTag.len c.in-EndTag.omits c.in-EndTag.loosens (AddsFor c.add_end_edges.result c.args.table.now c.args.rules (code.EndTag c.in-EndTag.len c.in-EndTag.omits c.in-EndTag.loosens) c.args.from c.clear.new.self.items c.add_end_edges.new.into.items) (λ n. c.add_end_edges.ensures c.args.table.now n c.requires))
+    let f = found c.add_end_edges.result c.args.table.now c.args.rules c.args.unit (code.EndTag c.in-EndTag.len c.in-EndTag.omits c.in-EndTag.notes_omission) c.args.from c.clear.new.self.items c.add_end_edges.new.into.items c.in-EndTag.is c.clear.ensures.items
+    (of_end_tag c.args.table.now.entries c.in-EndTag.len c.in-EndTag.omits c.in-EndTag.notes_omission (AddsFor c.add_end_edges.result c.args.table.now c.args.rules (code.EndTag c.in-EndTag.len c.in-EndTag.omits c.in-EndTag.notes_omission) c.args.from c.clear.new.self.items c.add_end_edges.new.into.items) (λ n. c.add_end_edges.ensures c.args.table.now n c.requires))
     ((c.add_end_edges.ensures c.args.table.now [] c.requires).known)
     in record { edges = f.edges; front = f.front; known = f.known }

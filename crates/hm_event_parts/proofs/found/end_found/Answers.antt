@@ -8,5 +8,5 @@ pub returns-clause-units : goal.returns-clause-units
 returns-clause-units c =
     let around = outer (path_after [] (take c.args.i c.args.tree.now)) in
     let after = drop (c.args.i + 1) c.args.tree.now in
-    end_there c.args.rules c.args.name.now c.args.foreign (take 1 after) after refl around (current around) c.has_no_end_tag.result c.may_omit_end.result c.is_loose_end.result c.has_no_end_tag.ensures
-    c.if-has_no_end_tag.false refl c.may_omit_end.ensures c.is_loose_end.ensures
+    end_there c.args.rules c.args.name.now c.args.foreign (take 1 after) after refl around (current around) c.has_no_end_tag.result c.may_omit_end.result c.is_omission_noted.result c.has_no_end_tag.ensures
+    c.if-has_no_end_tag.false refl c.may_omit_end.ensures c.is_omission_noted.ensures

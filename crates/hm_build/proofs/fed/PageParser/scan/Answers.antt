@@ -8,8 +8,8 @@ use Rattle.hm_build.specs.Feeding.{Comes, Feeding, HasCome, StopsAs}
 use Rattle.hm_build.specs.Parsing.{IsWithin}
 use Rattle.hm_build.proofs.Builders.{goes_read, reads_refused, stops_read}
 use Rattle.hm_build.proofs.Room.{within_further}
-use Rattle.hm_build.proofs.fed.Builder.scan.Goals as goal
-use Rattle.hm_build.proofs.fed.Builder.scan.Goals.{then-is_some-via-then-is_some, then-is_some-via-else-is_some+then-is_some-2}
+use Rattle.hm_build.proofs.fed.PageParser.scan.Goals as goal
+use Rattle.hm_build.proofs.fed.PageParser.scan.Goals.{then-is_some-via-then-is_some, then-is_some-via-else-is_some+then-is_some-2}
 
 none_of : {A : Type 0} (o : Option A) → is_some o ≡ false → o ≡ None
 none_of None h = refl

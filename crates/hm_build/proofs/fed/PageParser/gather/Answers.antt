@@ -1,8 +1,8 @@
 use Rattle.std.proofs.Common.{◌≡◌, Option, Some, None, is_some, true, false, refl, sym, ap, subst, ◌∙◌}
 use Rattle.hm_build.specs.Feeding.{HasCome}
 use Rattle.hm_build.proofs.Builders.{comes_on_with, stays_refused}
-use Rattle.hm_build.proofs.fed.Builder.gather.Goals as goal
-use Rattle.hm_build.proofs.fed.Builder.gather.Goals.{then-is_some-via-then-is_some, then-is_some-via-else-is_some+then-is_some-2}
+use Rattle.hm_build.proofs.fed.PageParser.gather.Goals as goal
+use Rattle.hm_build.proofs.fed.PageParser.gather.Goals.{then-is_some-via-then-is_some, then-is_some-via-else-is_some+then-is_some-2}
 
 none_of : {A : Type 0} (o : Option A) → is_some o ≡ false → o ≡ None
 none_of None h = refl

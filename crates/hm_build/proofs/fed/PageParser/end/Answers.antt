@@ -6,7 +6,7 @@ use Rattle.hm_build.specs.Feeding.{Feeding, HasCome, page_outcome_within}
 use Rattle.hm_build.specs.Parsing.{IsRefusedAs}
 use Rattle.hm_build.proofs.Room.{within_further}
 use Rattle.hm_build.proofs.Whole.{ends_refused, ends_sound, none_of_both, refused_same, settled_within}
-use Rattle.hm_build.proofs.fed.Builder.end.Goals as goal
+use Rattle.hm_build.proofs.fed.PageParser.end.Goals as goal
 
 pub build_rest-requires : goal.build_rest-requires
 build_rest-requires c =

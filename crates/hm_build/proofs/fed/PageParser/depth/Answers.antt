@@ -1,8 +1,8 @@
 use Rattle.std.proofs.Common.{◌≡◌, length, Option, Some, None, is_some, false, refl, sym, ap, ◌∙◌}
 use Rattle.hm_build.specs.Feeding.{Feeding, depth_at}
 use Rattle.hm_build.proofs.Builders.{asked_built, asked_faulty, asked_refused}
-use Rattle.hm_build.proofs.fed.Builder.depth.Goals as goal
-use Rattle.hm_build.proofs.fed.Builder.depth.Goals.{then-is_some-via-then-is_some, then-is_some-via-else-is_some+then-is_some-2}
+use Rattle.hm_build.proofs.fed.PageParser.depth.Goals as goal
+use Rattle.hm_build.proofs.fed.PageParser.depth.Goals.{then-is_some-via-then-is_some, then-is_some-via-else-is_some+then-is_some-2}
 
 none_of : {A : Type 0} (o : Option A) → is_some o ≡ false → o ≡ None
 none_of None h = refl

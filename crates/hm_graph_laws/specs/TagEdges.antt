@@ -21,7 +21,7 @@ start_bytes n = codes "<" ++ (n ++ codes ">")
 abbrev pub end_bytes : List ℕ → List ℕ
 end_bytes n = codes "</" ++ (n ++ codes ">")
 
--- A start tag: nothing, where it may be left out; the tag; the tag with a '/'. After a loose end a firm one isn't left out.
+-- A start tag: nothing, where it may be left out; the tag; the tag with a '/'. After an omitted end a required one isn't left out.
 abbrev pub start_edges : List ℕ → Bool → Bool → Bool → State → List Edge
 start_edges n omits required_after_omission closes s =
     (if omits && not (required_after_omission && is_after_omitted_end s.at) then edge_to [] (state (omission_forgotten s.at) s.pending) ∷ [] else [])

@@ -6,10 +6,10 @@ ghost use Rattle.hm_refs.specs.Tables.{IsNode, IsTrie, entry_at, found_at, front
 ghost use Rattle.hm_refs.specs.Nodes.{AreNames, IsPut, entries_of, place};
 ghost use Rattle.hm_refs.specs.Ready.{nodes_from};
 
-use crate::scan::is_closed;
 use crate::ids::{NameId, Node};
 use crate::nodes::{ReferenceName, TrieNode, after_first_byte, find_child, grow, mark_ends};
 use crate::ready::{ReadyNodes, nodes_of, places_of};
+use crate::scan::is_closed;
 use hm_base::{OutOfMemory, Points};
 use std::alloc::Global;
 use std::marker::Model;

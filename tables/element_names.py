@@ -92,11 +92,11 @@ class Tables:
         told = Definitions(folder)
         self.names = [name or "" for name in told.of("names")]
         self.flags = told.of("flags")
-        (self.yield_rows, self.end_rows, self.children, self.own_parents, self.before_rows, self.bound, self.up_names, self.up_of_p, self.start_rows) = map(
-            told.of, ["yield_rows", "end_rows", "children", "own_parents", "before_rows", "bound_names", "up_names", "up_of_p", "start_rows"])
+        (self.closed_by_start_rows, self.end_rows, self.children, self.own_parents, self.before_rows, self.bound, self.up_names, self.up_of_p, self.start_rows) = map(
+            told.of, ["closed_by_start_rows", "end_rows", "children", "own_parents", "before_rows", "bound_names", "up_names", "up_of_p", "start_rows"])
         self.lists = {name: told.of(name) for name in ["roots", "voids", "rcdata_names", "raw_names", "parts", "refused_names", "headings", "unnested_names", "paragraph_ends", "boundaries", "block_names", "sections"]}
         lists = list(self.flags) + [self.bound, self.up_names, self.up_of_p, ["html", "head", "body", "div", "dl", "noscript"]]
-        for table in [self.yield_rows, self.end_rows, self.children, self.own_parents, self.before_rows, self.start_rows]:
+        for table in [self.closed_by_start_rows, self.end_rows, self.children, self.own_parents, self.before_rows, self.start_rows]:
             lists += [names for row in table for names in row]
         for name in sorted({name for names in lists for name in names} - set(self.names)):
             sys.exit("no number: %s" % name)
@@ -104,10 +104,10 @@ class Tables:
     def closed_by_start(self, name):
         if name == "colgroup":
             return lambda following: following != "col"
-        names = find(self.yield_rows, name) or []
+        names = find(self.closed_by_start_rows, name) or []
         return lambda following: following in names
 
-    def ends_with(self, name):
+    def is_ended_by(self, name):
         names = find(self.end_rows, name) or []
         return lambda ending: ending in names
 
@@ -160,10 +160,10 @@ class Tables:
             ("closes_p", name in lists["paragraph_ends"]),
             ("boundary", name in lists["boundaries"]),
             ("block", name in lists["block_names"]),
-            ("is_closed_by_start", name == "colgroup" or find(self.yield_rows, name) is not None),
+            ("is_closed_by_start", name == "colgroup" or find(self.closed_by_start_rows, name) is not None),
             ("closes_open_p", self.closed_by_start("p")(name)),
             ("ends", find(self.end_rows, name) is not None),
-            ("p_ends", self.ends_with("p")(name)),
+            ("p_ends", self.is_ended_by("p")(name)),
             ("has_children", find(self.children, name) is not None),
             ("has_parents", find(self.own_parents, name) is not None),
             ("bound", name in self.bound),
@@ -249,8 +249,8 @@ def write_rows(tables):
     yield "pub(crate) const FLAG_COUNT: u8 = %d;" % len(tables.flags)
     yield from numbers("FLAGS", "u32", "In which of the lists each name is: a bit for each list.", [sum((name in names) << k for k, names in enumerate(tables.flags)) for name in tables.names])
     for name, answers, classes_comment, masks_comment in [
-        ("YIELD", tables.closed_by_start, "Open elements that close before the same start tags have one class.", "Which classes close before the start tag of each name: a bit for each class."),
-        ("END", tables.ends_with, "Open elements that end with the same end tags have one class.", "Which classes end with the end tag of each name."),
+        ("CLOSED", tables.closed_by_start, "Open elements that close before the same start tags have one class.", "Which classes close before the start tag of each name: a bit for each class."),
+        ("END", tables.is_ended_by, "Open elements that end with the same end tags have one class.", "Which classes end with the end tag of each name."),
         ("PARENT", tables.stands_in, "Parents in which the same elements stand have one class.", "In which classes an element of each name stands."),
         ("BEFORE", tables.optional_before, "Elements whose end tags may be left out before the same start tags have one class.", "The end tags of which classes may be left out before the start tag of each name."),
         ("INSIDE", tables.optional_in, "Elements whose end tags may be left out at the end of the same parents have one class.", "The end tags of which classes may be left out at the end of each parent."),

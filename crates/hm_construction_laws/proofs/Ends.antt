@@ -6,7 +6,7 @@ use Rattle.hm_base.specs.Walks.{Event, Element, pushed, pushes}
 use Rattle.hm_base.specs.declared.rules.Rule.TheVariants.{StrayEnd, NotCurrent}
 use Rattle.hm_elements.specs.Names.{is_among, head, body, noscript, p}
 use Rattle.hm_elements.specs.Tables.{is_raw, raw_names, is_rcdata, rcdata_names, holds_text}
-use Rattle.hm_elements.specs.Nesting.{ends_with, end_rows}
+use Rattle.hm_elements.specs.Nesting.{is_ended_by, end_rows}
 use Rattle.hm_elements.specs.Paths.{html_element, is_in_svg, is_in_text, is_open, front, rest_after, is_closed_by_end_of}
 use Rattle.hm_elements.specs.Settled.{is_html}
 use Rattle.hm_elements.proofs.TableTools.{same_bytes, entry_passes}
@@ -24,14 +24,14 @@ before_tag st insertion_mode path = moved (no_drop st) insertion_mode path
 pub good_on : (st : Construction) (insertion_mode : InsertionMode) (old path : List Element) → CommentsGood st → Shape insertion_mode path → Good (record (before_tag st insertion_mode old) { path = path })
 good_on st insertion_mode old path c s = record { shape = s; inner_comments = c.0; last_comments = c.1; keeps = λ h. refl }
 
-body_ends_none : (k : List ℕ) → ends_with body k ≡ false
-unfolding ends_with end_rows is_among
+body_ends_none : (k : List ℕ) → is_ended_by body k ≡ false
+unfolding is_ended_by end_rows is_among
 body_ends_none k = refl
 
 falls_body : (n : List ℕ) → is_closed_by_end_of n (html_element body) ≡ false
 falls_body n = by (bytes_eq body n)
   where
-    by : (c : Bool) → not c && ends_with body n ≡ false
+    by : (c : Bool) → not c && is_ended_by body n ≡ false
     by true = refl
     by false = body_ends_none n
 

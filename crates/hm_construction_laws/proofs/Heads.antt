@@ -7,7 +7,7 @@ use Rattle.hm_base.specs.Walks.{Event, start, end, Attribute, Element, begins_en
 use Rattle.hm_base.specs.declared.rules.Rule.TheVariants.{WrongParent, AfterHead}
 use Rattle.hm_elements.specs.Names.{words, is_among, head, noscript, svg}
 use Rattle.hm_elements.specs.Tables.{is_metadata, is_void, voids, is_refused, is_raw, raw_names, is_rcdata, rcdata_names, holds_text, closes_p, paragraph_ends, blocks, headings, is_unnested, unnested_names, is_heading, parts}
-use Rattle.hm_elements.specs.Nesting.{may_stand, children, noscript_children, is_closed_by_start, yield_rows}
+use Rattle.hm_elements.specs.Nesting.{may_stand, children, noscript_children, is_closed_by_start, closed_by_start_rows}
 use Rattle.hm_elements.specs.Paths.{html_element, is_in_svg, is_in_text, stands_on, head_yields, is_block_in_p, is_nested, is_deep}
 use Rattle.hm_elements.specs.Places.{AttributesAllowed, StartAllowed}
 use Rattle.hm_elements.proofs.TableTools.{same_bytes, entry_passes}
@@ -33,11 +33,11 @@ abbrev is_inner_child : List ℕ → Bool
 is_inner_child n = is_plain n && is_kept n
 
 head_children : list_all is_child (words "base link meta noscript script style title") ≡ true
-unfolding closes_p paragraph_ends blocks headings is_unnested unnested_names is_heading is_closed_by_start yield_rows parts is_void voids holds_text is_raw raw_names is_rcdata rcdata_names is_among
+unfolding closes_p paragraph_ends blocks headings is_unnested unnested_names is_heading is_closed_by_start closed_by_start_rows parts is_void voids holds_text is_raw raw_names is_rcdata rcdata_names is_among
 head_children = refl
 
 inner_children : list_all is_inner_child noscript_children ≡ true
-unfolding noscript_children closes_p paragraph_ends blocks headings is_unnested unnested_names is_heading is_closed_by_start yield_rows parts is_void voids holds_text is_raw raw_names is_rcdata rcdata_names is_among
+unfolding noscript_children closes_p paragraph_ends blocks headings is_unnested unnested_names is_heading is_closed_by_start closed_by_start_rows parts is_void voids holds_text is_raw raw_names is_rcdata rcdata_names is_among
 inner_children = refl
 
 stands_in_head : (n : List ℕ) → stands_on n under_head ≡ is_among n (words "base link meta noscript script style title")

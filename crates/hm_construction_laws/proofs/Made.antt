@@ -7,7 +7,7 @@ use Rattle.hm_base.specs.Forms.{is_small, is_tag_byte, is_tag_name}
 use Rattle.hm_base.specs.Walks.{Event, start, Element, pushes}
 use Rattle.hm_elements.specs.Names.{is_among, find, is_among_found, noscript, table, tbody, tr, td, th, col, colgroup, svg}
 use Rattle.hm_elements.specs.Tables.{is_void, voids, is_refused, refused_names, is_section, sections, is_heading, headings, is_unnested, unnested_names, closes_p, paragraph_ends, blocks, parts}
-use Rattle.hm_elements.specs.Nesting.{may_stand, children, stands_by_children, is_closed_by_start, yield_rows, made_under}
+use Rattle.hm_elements.specs.Nesting.{may_stand, children, stands_by_children, is_closed_by_start, closed_by_start_rows, made_under}
 use Rattle.hm_elements.specs.Paths.{html_element, current_name, is_in_svg, stands_on, head_yields, is_block_in_p, is_nested, is_deep}
 use Rattle.hm_elements.specs.Places.{StartAllowed, SettledBody}
 use Rattle.hm_elements.proofs.TableTools.{same_bytes, entry_passes}
@@ -93,7 +93,7 @@ made_allowed n path w no_svg form known no_void part outside stands kept shallow
     }
 
 in_table : (path : List Element) → (stands_on tbody (html_element table ∷ path) ≡ true) × (head_yields (html_element table ∷ path) tbody ≡ false) × (stands_on colgroup (html_element table ∷ path) ≡ true) × (head_yields (html_element table ∷ path) colgroup ≡ false)
-unfolding may_stand children is_closed_by_start yield_rows is_among
+unfolding may_stand children is_closed_by_start closed_by_start_rows is_among
 in_table path = (refl, refl, refl, refl)
 
 tbody_allowed : (path : List Element) (w : List Event) → is_deep (html_element tbody ∷ html_element table ∷ path) ≡ false → StartAllowed tbody false [] (html_element table ∷ path) w
@@ -106,7 +106,7 @@ abbrev holds_row : List ℕ → Bool
 holds_row t = not (is_closed_by_start t tr) && (not (bytes_eq t noscript) && is_among_found tr (find t children))
 
 sections_hold : list_all holds_row sections ≡ true
-unfolding is_closed_by_start yield_rows sections children parts is_among
+unfolding is_closed_by_start closed_by_start_rows sections children parts is_among
 sections_hold = refl
 
 found_stands : (n t : List ℕ) (g : Option (List ℕ)) (o : Option (List (List ℕ))) → is_among_found n o ≡ true → stands_by_children o n t g ≡ true
@@ -137,11 +137,11 @@ made_leads t n made path a_colgroup shallow w h = (colgroup_allowed path w shall
 made_leads t n made path (a_tr s m section c) shallow w h = (tr_allowed s path w section shallow, h)
 
 kept_by_made : (is_closed_by_start tbody tr ≡ false) × (is_closed_by_start colgroup col ≡ false)
-unfolding is_closed_by_start yield_rows parts is_among
+unfolding is_closed_by_start closed_by_start_rows parts is_among
 kept_by_made = (refl, refl)
 
 cells_kept : list_all (λ n. not (is_closed_by_start tr n) && is_among n part_names) (td ∷ th ∷ []) ≡ true
-unfolding is_closed_by_start yield_rows parts is_among
+unfolding is_closed_by_start closed_by_start_rows parts is_among
 cells_kept = refl
 
 cell_kept : (n : List ℕ) → is_among n (td ∷ th ∷ []) ≡ true → (is_closed_by_start tr n ≡ false) × (is_among n part_names ≡ true)

@@ -7,7 +7,7 @@ use Rattle.hm_base.specs.Walks.{Event, start, end, Attribute, Element, pushes, b
 use Rattle.hm_base.specs.declared.rules.Rule.TheVariants.{RefusedName, SecondRoot, BlockInParagraph, Nested, WrongParent, TooDeep, ForeignName}
 use Rattle.hm_elements.specs.Names.{words, is_among, body, svg, html}
 use Rattle.hm_elements.specs.Tables.{is_root, roots, is_void, is_refused, is_svg_name, holds_svg_text, is_raw, raw_names}
-use Rattle.hm_elements.specs.Nesting.{is_closed_by_start, yield_rows, made_under}
+use Rattle.hm_elements.specs.Nesting.{is_closed_by_start, closed_by_start_rows, made_under}
 use Rattle.hm_elements.specs.Paths.{html_element, current, is_in_svg, is_in_raw, stands_on, head_yields, is_block_in_p, is_nested, is_deep, front, rest_after, is_closed_by_start_of, made_on}
 use Rattle.hm_elements.specs.Settled.{is_html}
 use Rattle.hm_elements.specs.Places.{AttributesAllowed, StartAllowed, SettledBody}
@@ -72,7 +72,7 @@ entered_leads attributes slash st old e path c o allowed = by (closes_at_once sl
 -- ---- What closes
 
 body_keeps_open : (k : List ℕ) → is_closed_by_start body k ≡ false
-unfolding is_closed_by_start yield_rows is_among
+unfolding is_closed_by_start closed_by_start_rows is_among
 body_keeps_open k = refl
 
 -- closing a prefix of the path

@@ -8,7 +8,7 @@ use Rattle.hm_base.specs.Walks.{Event, doctype, start, text, comment, end}
 use Rattle.hm_base.specs.declared.rules.Rule.TheVariants as rules
 use Rattle.hm_elements.specs.Names.{is_among, html, head, body, p}
 use Rattle.hm_elements.specs.Tables.{is_metadata, roots, refused_names, headings, sections, parts, blocks, paragraph_ends, boundaries, svg_boundaries, svg_names, unnested_names, voids, rcdata_names, raw_names, is_root, is_void, is_refused, is_rcdata, is_raw, holds_text, is_heading, is_section, is_unnested, closes_p, is_boundary, is_svg_name, holds_svg_text}
-use Rattle.hm_elements.specs.Nesting.{children, noscript_children, own_parents, bound_names, may_stand, yield_rows, is_closed_by_start, end_rows, ends_with, made_under}
+use Rattle.hm_elements.specs.Nesting.{children, noscript_children, own_parents, bound_names, may_stand, closed_by_start_rows, is_closed_by_start, end_rows, is_ended_by, made_under}
 use Rattle.hm_elements.specs.Paths.{is_block_in_p, is_nested, is_deep, blank_parents, is_in_blank}
 use Rattle.hm_refs.specs.Names.{found_here}
 use Rattle.hm_refs.specs.Numbers.{point_of}
@@ -61,7 +61,7 @@ trees : (tree (codes "<p>a</p><p>b</p>") ≡ in_body (tag p ∷ words (codes "a"
     × (tree (codes "<p>a</body><!--c--></html><!--d-->") ≡ built (opening ++ tag p ∷ words (codes "a") ∷ close p ∷ close body ∷ comment (codes "c") ∷ close html ∷ comment (codes "d") ∷ []))
     × (tree (codes "</head> x") ≡ built (doctype false ∷ tag html ∷ tag head ∷ close head ∷ words (codes " ") ∷ tag body ∷ words (codes "x") ∷ ending))
     × (tree (codes "a" ++ 13 ∷ 10 ∷ codes "&#13;b") ≡ in_body (words (codes "a" ++ 10 ∷ 13 ∷ codes "b") ∷ []))
-unfolding tree_of_source encode found_here point_of reference value_of first step step_byte step_start step_end step_over is_metadata is_at_end read_tag read_start read_end begins_tag tag_fault is_bad_byte is_name_byte is_later_byte is_unquoted_byte is_inside is_quote is_tag_end attribute_at reference_at read_text begins_markup reference_in read_comment begins_cdata read_cdata read_doctype doctype_form begins_doctype is_letter is_space is_alnum is_digit_of lower is_tag_name is_small is_tag_byte begins_end_tag is_name_end mark_at is_among roots refused_names headings sections parts blocks paragraph_ends boundaries svg_boundaries svg_names unnested_names voids rcdata_names raw_names is_root is_void is_refused is_rcdata is_raw holds_text is_heading is_section is_unnested closes_p is_boundary is_svg_name holds_svg_text children noscript_children own_parents bound_names may_stand yield_rows is_closed_by_start end_rows ends_with made_under is_block_in_p is_nested is_deep blank_parents is_in_blank start_moves end_moves
+unfolding tree_of_source encode found_here point_of reference value_of first step step_byte step_start step_end step_over is_metadata is_at_end read_tag read_start read_end begins_tag tag_fault is_bad_byte is_name_byte is_later_byte is_unquoted_byte is_inside is_quote is_tag_end attribute_at reference_at read_text begins_markup reference_in read_comment begins_cdata read_cdata read_doctype doctype_form begins_doctype is_letter is_space is_alnum is_digit_of lower is_tag_name is_small is_tag_byte begins_end_tag is_name_end mark_at is_among roots refused_names headings sections parts blocks paragraph_ends boundaries svg_boundaries svg_names unnested_names voids rcdata_names raw_names is_root is_void is_refused is_rcdata is_raw holds_text is_heading is_section is_unnested closes_p is_boundary is_svg_name holds_svg_text children noscript_children own_parents bound_names may_stand closed_by_start_rows is_closed_by_start end_rows is_ended_by made_under is_block_in_p is_nested is_deep blank_parents is_in_blank start_moves end_moves
 trees = (refl, refl, refl, refl, refl, refl, refl, refl, refl, refl, refl, refl)
 
 refusals : (tree_of_text [] [] ≡ refused_by rules.NoDoctype 0)
@@ -90,5 +90,5 @@ refusals : (tree_of_text [] [] ≡ refused_by rules.NoDoctype 0)
     × (tree (codes "<svg><![CDATA[x") ≡ refused_by rules.Cut 20)
     × (tree (codes "<b></b \"x>") ≡ refused_by rules.BadName 18)
     × (tree (codes "<!doctype html>") ≡ refused_by rules.SecondDoctype 15)
-unfolding tree_of_source first step step_byte step_start step_end step_over is_metadata is_at_end read_tag read_start read_end begins_tag tag_fault is_bad_byte is_name_byte is_later_byte is_unquoted_byte is_inside is_quote is_tag_end attribute_at reference_at read_text begins_markup reference_in read_comment begins_cdata read_cdata read_doctype doctype_form begins_doctype is_letter is_space is_alnum is_digit_of lower is_tag_name is_small is_tag_byte begins_end_tag is_name_end mark_at is_among roots refused_names headings sections parts blocks paragraph_ends boundaries svg_boundaries svg_names unnested_names voids rcdata_names raw_names is_root is_void is_refused is_rcdata is_raw holds_text is_heading is_section is_unnested closes_p is_boundary is_svg_name holds_svg_text children noscript_children own_parents bound_names may_stand yield_rows is_closed_by_start end_rows ends_with made_under is_block_in_p is_nested is_deep blank_parents is_in_blank start_moves end_moves
+unfolding tree_of_source first step step_byte step_start step_end step_over is_metadata is_at_end read_tag read_start read_end begins_tag tag_fault is_bad_byte is_name_byte is_later_byte is_unquoted_byte is_inside is_quote is_tag_end attribute_at reference_at read_text begins_markup reference_in read_comment begins_cdata read_cdata read_doctype doctype_form begins_doctype is_letter is_space is_alnum is_digit_of lower is_tag_name is_small is_tag_byte begins_end_tag is_name_end mark_at is_among roots refused_names headings sections parts blocks paragraph_ends boundaries svg_boundaries svg_names unnested_names voids rcdata_names raw_names is_root is_void is_refused is_rcdata is_raw holds_text is_heading is_section is_unnested closes_p is_boundary is_svg_name holds_svg_text children noscript_children own_parents bound_names may_stand closed_by_start_rows is_closed_by_start end_rows is_ended_by made_under is_block_in_p is_nested is_deep blank_parents is_in_blank start_moves end_moves
 refusals = (refl, refl, refl, refl, refl, refl, refl, refl, refl, refl, refl, refl, refl, refl, refl, refl, refl, refl, refl, refl, refl, refl, refl, refl, refl, refl)

@@ -5,7 +5,7 @@ use Rattle.std.proofs.lemmas.Bool.{and_parts}
 use Rattle.hm_elements.specs.declared.class.Class.TheVariants.{Ordinary}
 use Rattle.hm_elements.specs.Kinds.{kind, has_row}
 use Rattle.hm_elements.specs.Names.{words, is_among, PairRow, find, p, table, colgroup, script}
-use Rattle.hm_elements.specs.Nesting.{without, children, own_parents, bound_names, yield_rows, end_rows, is_closed_by_start, ends_with}
+use Rattle.hm_elements.specs.Nesting.{without, children, own_parents, bound_names, closed_by_start_rows, end_rows, is_closed_by_start, is_ended_by}
 use Rattle.hm_elements.specs.Tables.{roots, voids, rcdata_names, raw_names, refused_names, headings, sections, parts, blocks, paragraph_ends, boundaries, block_names, unnested_names, is_root, is_void, is_rcdata, is_raw, is_refused, is_heading, is_unnested, closes_p, is_boundary, is_block, is_table_part, class_of}
 use Rattle.hm_elements.proofs.TableTools.{not_among, none_among}
 
@@ -96,20 +96,20 @@ pub no_parents : (n : List ℕ) → is_listed n ≡ false → has_row own_parent
 unfolding own_parents is_among
 no_parents n none = rw (no_row n own_parents none refl) refl
 
-pub no_yields : (n : List ℕ) → is_listed n ≡ false → has_row yield_rows n ≡ false
-unfolding yield_rows is_among
-no_yields n none = rw (no_row n yield_rows none refl) refl
+pub no_yields : (n : List ℕ) → is_listed n ≡ false → has_row closed_by_start_rows n ≡ false
+unfolding closed_by_start_rows is_among
+no_yields n none = rw (no_row n closed_by_start_rows none refl) refl
 
 pub no_ends : (n : List ℕ) → is_listed n ≡ false → has_row end_rows n ≡ false
 unfolding end_rows is_among
 no_ends n none = rw (no_row n end_rows none refl) refl
 
 pub not_before_p : (n : List ℕ) → is_listed n ≡ false → is_closed_by_start p n ≡ false
-unfolding is_closed_by_start yield_rows paragraph_ends blocks headings parts is_among
+unfolding is_closed_by_start closed_by_start_rows paragraph_ends blocks headings parts is_among
 not_before_p n none = unlisted n (paragraph_ends ++ words "rt rp" ++ parts) none refl
 
-pub not_after_p : (n : List ℕ) → is_listed n ≡ false → ends_with p n ≡ false
-unfolding ends_with end_rows blocks headings sections is_among
+pub not_after_p : (n : List ℕ) → is_listed n ≡ false → is_ended_by p n ≡ false
+unfolding is_ended_by end_rows blocks headings sections is_among
 not_after_p n none = unlisted n (without (words "hr p") blocks ++ words "button li dd dt object td th caption tr" ++ sections) none refl
 
 pub no_colgroup : (n : List ℕ) → is_listed n ≡ false → bytes_eq n colgroup ≡ false

@@ -7,7 +7,7 @@ use Rattle.hm_base.specs.Walks.{Element}
 use Rattle.hm_base.specs.declared.limits.TheConstants.{DEPTH_LIMIT}
 use Rattle.hm_elements.specs.Names.{words, is_among, find, is_pair, head, table, tbody, tr, col, colgroup, script, svg}
 use Rattle.hm_elements.specs.Tables.{is_raw, is_rcdata, holds_text, roots, voids, rcdata_names, raw_names, refused_names, headings, sections, parts, blocks, paragraph_ends, unnested_names, is_root, is_void, is_refused, is_section, is_heading, is_unnested, closes_p}
-use Rattle.hm_elements.specs.Nesting.{children, noscript_children, own_parents, bound_names, may_stand, yield_rows, is_closed_by_start, end_rows, ends_with, made_under}
+use Rattle.hm_elements.specs.Nesting.{children, noscript_children, own_parents, bound_names, may_stand, closed_by_start_rows, is_closed_by_start, end_rows, is_ended_by, made_under}
 use Rattle.hm_elements.specs.Omission.{start_rows, start_tag_optional_before}
 use Rattle.hm_elements.specs.Paths.{is_block_in_p, is_nested, is_deep}
 use Rattle.hm_elements.specs.Laws.{ParentIs, HoldsMore, StartIsMade, SvgIsPlain}
@@ -119,8 +119,8 @@ unfolding end_rows blocks headings sections is_among
 ends_differ = refl
 
 -- no element ends with its own name's end tag by the table
-pub ends_is_other : (m n : List ℕ) → ends_with m n ≡ true → bytes_eq m n ≡ false
-unfolding ends_with
+pub ends_is_other : (m n : List ℕ) → is_ended_by m n ≡ true → bytes_eq m n ≡ false
+unfolding is_ended_by
 ends_is_other m n h = not-true (bytes_eq m n) (pair_passes (λ c t. not (bytes_eq c t)) m n end_rows ends_differ h)
 
 abbrev is_start_pair : List ℕ → List ℕ → Bool
@@ -144,11 +144,11 @@ start_cases n k h =
     ]
 
 made_col : (t : List ℕ) → t ≡ table → StartIsMade colgroup col t
-unfolding made_under is_closed_by_start yield_rows is_among start_tag_optional_before start_rows is_block_in_p is_nested closes_p paragraph_ends blocks headings is_unnested unnested_names is_heading
+unfolding made_under is_closed_by_start closed_by_start_rows is_among start_tag_optional_before start_rows is_block_in_p is_nested closes_p paragraph_ends blocks headings is_unnested unnested_names is_heading
 made_col t e = record { in_table = e; makes = rw e refl; kept = rw e refl; kept_inside = refl; last = λ l. refl; no_block_in_p = λ path. refl; not_nested = λ path. refl }
 
 made_tr : (t : List ℕ) → t ≡ table → StartIsMade tbody tr t
-unfolding made_under is_closed_by_start yield_rows parts is_among start_tag_optional_before start_rows is_block_in_p is_nested closes_p paragraph_ends blocks headings is_unnested unnested_names is_heading
+unfolding made_under is_closed_by_start closed_by_start_rows parts is_among start_tag_optional_before start_rows is_block_in_p is_nested closes_p paragraph_ends blocks headings is_unnested unnested_names is_heading
 made_tr t e = record { in_table = e; makes = rw e refl; kept = rw e refl; kept_inside = refl; last = λ l. refl; no_block_in_p = λ path. refl; not_nested = λ path. refl }
 
 pub start_is_made : (n k t : List ℕ) (g : Option (List ℕ)) → may_stand n t g ≡ true → start_tag_optional_before n k ≡ true → StartIsMade n k t
@@ -163,8 +163,8 @@ pub svg_is_plain : SvgIsPlain
 unfolding is_tag_name is_small is_tag_byte is_digit_of is_refused refused_names is_block_in_p is_nested closes_p paragraph_ends blocks headings is_unnested unnested_names is_heading is_void voids is_root roots is_among
 svg_is_plain = record { name = refl; known = refl; no_block_in_p = λ path. refl; not_nested = λ path. refl; not_void = refl; not_root = refl }
 
-no_svg_after : each_pair (λ c k. not (bytes_eq k svg)) yield_rows ≡ true
-unfolding yield_rows paragraph_ends blocks headings parts is_among
+no_svg_after : each_pair (λ c k. not (bytes_eq k svg)) closed_by_start_rows ≡ true
+unfolding closed_by_start_rows paragraph_ends blocks headings parts is_among
 no_svg_after = refl
 
 no_svg_in_colgroup : (g : Option (List ℕ)) → may_stand svg colgroup g ≡ false
@@ -178,9 +178,9 @@ svg_is_kept t g h = by_colgroup (bytes_eq t colgroup) refl
     never : bytes_eq t colgroup ≡ true → ⊥
     never e = both_ways (may_stand svg t g) (rw (same_bytes t colgroup e) (no_svg_in_colgroup g)) h
 
-    by_colgroup : (b : Bool) → bytes_eq t colgroup ≡ b → cond b true (is_pair yield_rows t svg) ≡ false
+    by_colgroup : (b : Bool) → bytes_eq t colgroup ≡ b → cond b true (is_pair closed_by_start_rows t svg) ≡ false
     by_colgroup true e = absurd (never e)
-    by_colgroup false e = false_from_ne_true (is_pair yield_rows t svg) (λ k. both_ways (bytes_eq svg svg) (not-true (bytes_eq svg svg) (pair_passes (λ c n. not (bytes_eq n svg)) t svg yield_rows no_svg_after k)) refl)
+    by_colgroup false e = false_from_ne_true (is_pair closed_by_start_rows t svg) (λ k. both_ways (bytes_eq svg svg) (not-true (bytes_eq svg svg) (pair_passes (λ c n. not (bytes_eq n svg)) t svg closed_by_start_rows no_svg_after k)) refl)
 
 abbrev pub holds_more : List ℕ → Bool
 holds_more c = not (holds_text c) && not (is_void c)

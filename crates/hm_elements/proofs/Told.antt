@@ -4,10 +4,10 @@ use Rattle.std.specs.List.{list_all}
 use Rattle.std.specs.Option.{is_some}
 use Rattle.std.proofs.lemmas.Bool.{and_parts, false_from_ne_true, both_ways}
 use Rattle.hm_elements.specs.declared.names.TheConstants.{NAME_COUNT}
-use Rattle.hm_elements.specs.declared.rows.TheConstants.{YIELD_CLASSES, YIELD_MASKS, END_CLASSES, END_MASKS, PARENT_CLASSES, PARENT_MASKS, BEFORE_CLASSES, BEFORE_MASKS, INSIDE_CLASSES, INSIDE_MASKS}
+use Rattle.hm_elements.specs.declared.rows.TheConstants.{CLOSED_CLASSES, CLOSED_MASKS, END_CLASSES, END_MASKS, PARENT_CLASSES, PARENT_MASKS, BEFORE_CLASSES, BEFORE_MASKS, INSIDE_CLASSES, INSIDE_MASKS}
 use Rattle.hm_elements.specs.Names.{words, is_among, PairRow, find, is_among_found, is_pair, colgroup, col, p, option, head, noscript, div, dl}
 use Rattle.hm_elements.specs.Tables.{headings, blocks, parts, sections, paragraph_ends, rcdata_names, raw_names, voids}
-use Rattle.hm_elements.specs.Nesting.{yield_rows, is_closed_by_start, end_rows, ends_with, children, own_parents, bound_names, noscript_children, is_name, stands_by_parents, stands_by_children, may_stand}
+use Rattle.hm_elements.specs.Nesting.{closed_by_start_rows, is_closed_by_start, end_rows, is_ended_by, children, own_parents, bound_names, noscript_children, is_name, stands_by_parents, stands_by_children, may_stand}
 use Rattle.hm_elements.specs.Numbers.{names, number_of, text_of}
 use Rattle.hm_elements.specs.Omission.{before_rows, end_tag_optional_before, up_names, up_of_p, end_tag_optional_in}
 use Rattle.hm_elements.specs.Rows.{flags, listed_at, bit_at, is_told, stands_in}
@@ -63,48 +63,48 @@ no_col n e = not_among n col names e col_named
 -- ---- What closes before a start tag
 
 abbrev yield_row : List ℕ → Bool × Option (List (List ℕ))
-yield_row a = (bytes_eq a colgroup, find a yield_rows)
+yield_row a = (bytes_eq a colgroup, find a closed_by_start_rows)
 
 yields_by_row : (a b n : List ℕ) → yield_row a ≡ yield_row b → is_closed_by_start a n ≡ is_closed_by_start b n
 unfolding is_closed_by_start
 yields_by_row a b n e =
     let c : bytes_eq a colgroup ≡ bytes_eq b colgroup = ap (λ x. x.0) e in
-    let f : find a yield_rows ≡ find b yield_rows = ap (λ x. x.1) e in
+    let f : find a closed_by_start_rows ≡ find b closed_by_start_rows = ap (λ x. x.1) e in
     rw (c, f) refl
 
-yield_heads : heads_named yield_rows ≡ true
-unfolding yield_rows names is_among
+yield_heads : heads_named closed_by_start_rows ≡ true
+unfolding closed_by_start_rows names is_among
 yield_heads = refl
 
-yield_nexts : next_named yield_rows ≡ true
-unfolding yield_rows paragraph_ends blocks headings parts names is_among
+yield_nexts : next_named closed_by_start_rows ≡ true
+unfolding closed_by_start_rows paragraph_ends blocks headings parts names is_among
 yield_nexts = refl
 
 other_yield_row : (a : List ℕ) → is_among a names ≡ false → yield_row [] ≡ yield_row a
-unfolding yield_rows is_among
-other_yield_row a e = rw (no_colgroup a e, no_row a yield_rows e yield_heads) refl
+unfolding closed_by_start_rows is_among
+other_yield_row a e = rw (no_colgroup a e, no_row a closed_by_start_rows e yield_heads) refl
 
 yields_to_other : (a n : List ℕ) → is_among n names ≡ false → is_closed_by_start a [] ≡ is_closed_by_start a n
 unfolding is_closed_by_start
-yields_to_other a n e = alike (bytes_eq a colgroup) (not (bytes_eq [] col)) (not (bytes_eq n col)) (is_pair yield_rows a []) (is_pair yield_rows a n) (ap not (sym (no_col n e))) (same_pair yield_rows a n e yield_nexts)
+yields_to_other a n e = alike (bytes_eq a colgroup) (not (bytes_eq [] col)) (not (bytes_eq n col)) (is_pair closed_by_start_rows a []) (is_pair closed_by_start_rows a n) (ap not (sym (no_col n e))) (same_pair closed_by_start_rows a n e yield_nexts)
 
-yield_table : IsTable (Bool × Option (List (List ℕ))) yield_row is_closed_by_start 11 YIELD_CLASSES YIELD_MASKS
-unfolding names first text_of is_closed_by_start yield_rows parts headings blocks paragraph_ends is_among bit_at
+yield_table : IsTable (Bool × Option (List (List ℕ))) yield_row is_closed_by_start 11 CLOSED_CLASSES CLOSED_MASKS
+unfolding names first text_of is_closed_by_start closed_by_start_rows parts headings blocks paragraph_ends is_among bit_at
 yield_table = record { by_row = yields_by_row; other_row = other_yield_row; other_next = yields_to_other; same_rows = refl; bits = refl; below = refl; some = lit< tt; classes_many = refl; masks_many = refl }
 
-pub yields_told : (cs ms : List ℕ) (i j : ℕ) → cs ≡ YIELD_CLASSES → ms ≡ YIELD_MASKS → i < NAME_COUNT → j < NAME_COUNT → is_told cs ms i j ≡ is_closed_by_start (text_of i) (text_of j)
-yields_told = told yield_row is_closed_by_start 11 YIELD_CLASSES YIELD_MASKS yield_table
+pub yields_told : (cs ms : List ℕ) (i j : ℕ) → cs ≡ CLOSED_CLASSES → ms ≡ CLOSED_MASKS → i < NAME_COUNT → j < NAME_COUNT → is_told cs ms i j ≡ is_closed_by_start (text_of i) (text_of j)
+yields_told = told yield_row is_closed_by_start 11 CLOSED_CLASSES CLOSED_MASKS yield_table
 
 pub yields_named : (a b : List ℕ) → is_closed_by_start (text_of (number_of a)) (text_of (number_of b)) ≡ is_closed_by_start a b
-yields_named = pair_named yield_row is_closed_by_start 11 YIELD_CLASSES YIELD_MASKS yield_table
+yields_named = pair_named yield_row is_closed_by_start 11 CLOSED_CLASSES CLOSED_MASKS yield_table
 
 -- ---- What ends with an end tag
 
 abbrev end_row : List ℕ → Option (List (List ℕ))
 end_row a = find a end_rows
 
-ends_by_row : (a b n : List ℕ) → end_row a ≡ end_row b → ends_with a n ≡ ends_with b n
-unfolding ends_with
+ends_by_row : (a b n : List ℕ) → end_row a ≡ end_row b → is_ended_by a n ≡ is_ended_by b n
+unfolding is_ended_by
 ends_by_row a b n e = rw e refl
 
 end_heads : heads_named end_rows ≡ true
@@ -119,19 +119,19 @@ other_end_row : (a : List ℕ) → is_among a names ≡ false → end_row [] ≡
 unfolding end_rows is_among
 other_end_row a e = rw (no_row a end_rows e end_heads) refl
 
-ends_with_other : (a n : List ℕ) → is_among n names ≡ false → ends_with a [] ≡ ends_with a n
-unfolding ends_with
+ends_with_other : (a n : List ℕ) → is_among n names ≡ false → is_ended_by a [] ≡ is_ended_by a n
+unfolding is_ended_by
 ends_with_other a n e = same_pair end_rows a n e end_nexts
 
-end_table : IsTable (Option (List (List ℕ))) end_row ends_with 10 END_CLASSES END_MASKS
-unfolding names first text_of ends_with end_rows sections headings blocks is_among bit_at
+end_table : IsTable (Option (List (List ℕ))) end_row is_ended_by 10 END_CLASSES END_MASKS
+unfolding names first text_of is_ended_by end_rows sections headings blocks is_among bit_at
 end_table = record { by_row = ends_by_row; other_row = other_end_row; other_next = ends_with_other; same_rows = refl; bits = refl; below = refl; some = lit< tt; classes_many = refl; masks_many = refl }
 
-pub ends_told : (cs ms : List ℕ) (i j : ℕ) → cs ≡ END_CLASSES → ms ≡ END_MASKS → i < NAME_COUNT → j < NAME_COUNT → is_told cs ms i j ≡ ends_with (text_of i) (text_of j)
-ends_told = told end_row ends_with 10 END_CLASSES END_MASKS end_table
+pub ends_told : (cs ms : List ℕ) (i j : ℕ) → cs ≡ END_CLASSES → ms ≡ END_MASKS → i < NAME_COUNT → j < NAME_COUNT → is_told cs ms i j ≡ is_ended_by (text_of i) (text_of j)
+ends_told = told end_row is_ended_by 10 END_CLASSES END_MASKS end_table
 
-pub ends_named : (a b : List ℕ) → ends_with (text_of (number_of a)) (text_of (number_of b)) ≡ ends_with a b
-ends_named = pair_named end_row ends_with 10 END_CLASSES END_MASKS end_table
+pub ends_named : (a b : List ℕ) → is_ended_by (text_of (number_of a)) (text_of (number_of b)) ≡ is_ended_by a b
+ends_named = pair_named end_row is_ended_by 10 END_CLASSES END_MASKS end_table
 
 -- ---- Before which start tags an end tag may be left out
 

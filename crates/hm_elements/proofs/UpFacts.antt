@@ -5,7 +5,7 @@ use Rattle.std.specs.Option.{is_some}
 use Rattle.std.proofs.lemmas.Bool.{and_parts, not-true, false_from_ne_true, both_ways}
 use Rattle.hm_elements.specs.Names.{is_among, find, is_among_found, is_pair, body, p, option, table, tbody, tr, col, colgroup}
 use Rattle.hm_elements.specs.Tables.{voids, rcdata_names, raw_names, headings, sections, parts, blocks, paragraph_ends, is_section, is_void, is_raw, is_rcdata, holds_text}
-use Rattle.hm_elements.specs.Nesting.{children, noscript_children, own_parents, bound_names, may_stand, yield_rows, is_closed_by_start, end_rows, ends_with}
+use Rattle.hm_elements.specs.Nesting.{children, noscript_children, own_parents, bound_names, may_stand, closed_by_start_rows, is_closed_by_start, end_rows, is_ended_by}
 use Rattle.hm_elements.specs.Omission.{before_rows, end_tag_optional_before, up_names, up_of_p, end_tag_optional_in, start_tag_optional_before, start_tag_required_after}
 use Rattle.hm_elements.proofs.TableTools.{same_bytes, entry_passes, each_pair, pair_passes, HoldsInTables, stands_passes, no_row}
 use Rattle.hm_elements.proofs.TableFacts.{stands_parent, stands_beside_colgroup, start_cases, holds_more, holds_more_means}
@@ -17,13 +17,13 @@ all_found test (Some ms) = list_all test ms
 
 -- what ends the parent t ends c too; a p holds no such c, and body none but p
 abbrev follows : List ℕ → List ℕ → Bool
-follows c t = not (bytes_eq t p) && (not (bytes_eq t colgroup) && ((if bytes_eq t body then bytes_eq c p else ends_with c t) && (all_found (is_closed_by_start c) (find t yield_rows) && all_found (ends_with c) (find t end_rows))))
+follows c t = not (bytes_eq t p) && (not (bytes_eq t colgroup) && ((if bytes_eq t body then bytes_eq c p else is_ended_by c t) && (all_found (is_closed_by_start c) (find t closed_by_start_rows) && all_found (is_ended_by c) (find t end_rows))))
 
 abbrev up_follows : List ℕ → List ℕ → Bool
 up_follows c t = if end_tag_optional_in c t then follows c t else true
 
 up_of_p_follow : list_all (follows p) up_of_p ≡ true
-unfolding up_of_p blocks headings sections parts paragraph_ends is_closed_by_start yield_rows ends_with end_rows is_among
+unfolding up_of_p blocks headings sections parts paragraph_ends is_closed_by_start closed_by_start_rows is_ended_by end_rows is_among
 up_of_p_follow = refl
 
 -- names that go up, but p and option, stand nowhere by themselves
@@ -51,7 +51,7 @@ up_ordinary n t alone none not_in = by_p (bytes_eq n p) refl
     by_p false e = rw (no_row n option own_parents none option_row, not_up) refl
 
 up_follows_hold : HoldsInTables up_follows
-unfolding children noscript_children own_parents end_tag_optional_in up_of_p up_names is_closed_by_start yield_rows ends_with end_rows blocks headings sections parts paragraph_ends rcdata_names raw_names voids is_among
+unfolding children noscript_children own_parents end_tag_optional_in up_of_p up_names is_closed_by_start closed_by_start_rows is_ended_by end_rows blocks headings sections parts paragraph_ends rcdata_names raw_names voids is_among
 up_follows_hold = record {
   children_pass = refl;
   noscript_passes = refl;
@@ -68,18 +68,18 @@ found_passes test None k all h = cc
 found_passes test (Some ms) k all h = entry_passes test k ms all h
 
 follows_means : (c t : List ℕ) → bytes_eq t body ≡ false → follows c t ≡ true → Follows c t
-unfolding is_closed_by_start ends_with
+unfolding is_closed_by_start is_ended_by
 follows_means c t other h =
     let one = and_parts (not (bytes_eq t p)) _ h in
     let two = and_parts (not (bytes_eq t colgroup)) _ one.1 in
-    let three = and_parts (if bytes_eq t body then bytes_eq c p else ends_with c t) _ two.1 in
-    let four = and_parts (all_found (is_closed_by_start c) (find t yield_rows)) _ three.1 in
+    let three = and_parts (if bytes_eq t body then bytes_eq c p else is_ended_by c t) _ two.1 in
+    let four = and_parts (all_found (is_closed_by_start c) (find t closed_by_start_rows)) _ three.1 in
     let is_other : bytes_eq t colgroup ≡ false = not-true (bytes_eq t colgroup) two.0 in
     record {
       not_in_p = not-true (bytes_eq t p) one.0;
       ends_there = rw other at three.0;
-      yields_on = λ k e. found_passes (is_closed_by_start c) (find t yield_rows) k four.0 (rw is_other at e);
-      ends_on = λ k e. found_passes (ends_with c) (find t end_rows) k four.1 e;
+      yields_on = λ k e. found_passes (is_closed_by_start c) (find t closed_by_start_rows) k four.0 (rw is_other at e);
+      ends_on = λ k e. found_passes (is_ended_by c) (find t end_rows) k four.1 e;
     }
 
 pub up_means : (c t : List ℕ) (g : Option (List ℕ)) → may_stand c t g ≡ true → end_tag_optional_in c t ≡ true → bytes_eq t body ≡ false → Follows c t
@@ -94,15 +94,15 @@ up_in_body c g h up =
     same_bytes c p three.0
 
 before_yields : each_pair is_closed_by_start before_rows ≡ true
-unfolding before_rows blocks headings sections parts paragraph_ends is_closed_by_start yield_rows is_among
+unfolding before_rows blocks headings sections parts paragraph_ends is_closed_by_start closed_by_start_rows is_among
 before_yields = refl
 
 before_tbody : each_pair (λ c k. not (bytes_eq k tbody) || (is_section c || is_closed_by_start c tr)) before_rows ≡ true
-unfolding before_rows blocks headings sections parts paragraph_ends is_closed_by_start yield_rows is_section is_among
+unfolding before_rows blocks headings sections parts paragraph_ends is_closed_by_start closed_by_start_rows is_section is_among
 before_tbody = refl
 
 before_colgroup : each_pair (λ c k. not (bytes_eq k colgroup) || is_closed_by_start c col) before_rows ≡ true
-unfolding before_rows blocks headings sections parts paragraph_ends is_closed_by_start yield_rows is_among
+unfolding before_rows blocks headings sections parts paragraph_ends is_closed_by_start closed_by_start_rows is_among
 before_colgroup = refl
 
 colgroup_in_table : (c t : List ℕ) (g : Option (List ℕ)) → may_stand c t g ≡ true → c ≡ colgroup → t ≡ table
@@ -120,7 +120,7 @@ goes_yields c k t g hc hk goes = by_colgroup (bytes_eq c colgroup) refl goes
     no_col : bytes_eq c colgroup ≡ true → bytes_eq k col ≡ false
     no_col e = stands_beside_colgroup k g (rw (in_table e) at hk)
 
-    by_colgroup : (b : Bool) → bytes_eq c colgroup ≡ b → (if b then true else is_pair before_rows c k) ≡ true → (if b then not (bytes_eq k col) else is_pair yield_rows c k) ≡ true
+    by_colgroup : (b : Bool) → bytes_eq c colgroup ≡ b → (if b then true else is_pair before_rows c k) ≡ true → (if b then not (bytes_eq k col) else is_pair closed_by_start_rows c k) ≡ true
     by_colgroup true e h = rw (no_col e) refl
     by_colgroup false e h = let y : is_closed_by_start c k ≡ true = pair_passes is_closed_by_start c k before_rows before_yields h in rw e at y
 
@@ -137,7 +137,7 @@ yields_tr : (c : List ℕ) → end_tag_optional_before c tbody ≡ true → is_s
 unfolding end_tag_optional_before is_closed_by_start
 yields_tr c goes other = by_colgroup (bytes_eq c colgroup) refl goes
   where
-    by_colgroup : (b : Bool) → bytes_eq c colgroup ≡ b → (if b then true else is_pair before_rows c tbody) ≡ true → (if b then not (bytes_eq tr col) else is_pair yield_rows c tr) ≡ true
+    by_colgroup : (b : Bool) → bytes_eq c colgroup ≡ b → (if b then true else is_pair before_rows c tbody) ≡ true → (if b then not (bytes_eq tr col) else is_pair closed_by_start_rows c tr) ≡ true
     by_colgroup true e h = refl
     by_colgroup false e h =
         let y : is_section c || is_closed_by_start c tr ≡ true = pair_passes (λ c' k. not (bytes_eq k tbody) || (is_section c' || is_closed_by_start c' tr)) c tbody before_rows before_tbody h in

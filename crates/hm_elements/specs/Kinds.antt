@@ -3,7 +3,7 @@ use Rattle.std.specs.Prelude.{ℕ, Bool, true, false, ◌||◌, List, Option, So
 use Rattle.hm_elements.specs.declared.class.Class.TheVariants.{Ordinary}
 use Rattle.hm_elements.specs.declared.kind.Kind.{Kind}
 use Rattle.hm_elements.specs.Names.{is_among, PairRow, find, p, colgroup}
-use Rattle.hm_elements.specs.Nesting.{children, own_parents, bound_names, yield_rows, end_rows, is_closed_by_start, ends_with}
+use Rattle.hm_elements.specs.Nesting.{children, own_parents, bound_names, closed_by_start_rows, end_rows, is_closed_by_start, is_ended_by}
 use Rattle.hm_elements.specs.Numbers.{number_of}
 use Rattle.hm_elements.specs.Tables.{class_of, is_heading, is_unnested, closes_p, is_boundary, is_block}
 
@@ -25,10 +25,10 @@ kind n = record {
   closes_p = closes_p n;
   boundary = is_boundary n false;
   block = is_block n;
-  is_closed_by_start = bytes_eq n colgroup || has_row yield_rows n;
+  is_closed_by_start = bytes_eq n colgroup || has_row closed_by_start_rows n;
   closes_open_p = is_closed_by_start p n;
   ends = has_row end_rows n;
-  p_ends = ends_with p n;
+  p_ends = is_ended_by p n;
   has_children = has_row children n;
   has_parents = has_row own_parents n;
   bound = is_among n bound_names;

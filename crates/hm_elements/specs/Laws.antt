@@ -6,7 +6,7 @@ use Rattle.hm_base.specs.RawText.{begins_end_tag}
 use Rattle.hm_base.specs.Walks.{Event, Element}
 use Rattle.hm_elements.specs.Names.{words, is_among, head, body, p, table, tr, col, colgroup, svg}
 use Rattle.hm_elements.specs.Tables.{is_root, is_void, is_refused, is_section, holds_text, is_raw, is_svg_name}
-use Rattle.hm_elements.specs.Nesting.{may_stand, is_closed_by_start, ends_with, made_under}
+use Rattle.hm_elements.specs.Nesting.{may_stand, is_closed_by_start, is_ended_by, made_under}
 use Rattle.hm_elements.specs.Omission.{end_tag_optional_before, end_tag_optional_in, start_tag_optional_before, start_tag_required_after}
 use Rattle.hm_elements.specs.Paths.{is_block_in_p, is_nested, is_deep}
 use Rattle.hm_elements.specs.Sample.{sample}
@@ -30,9 +30,9 @@ pub record HoldsMore (t : List ℕ) : Type 0 where
 -- What closes or ends the element t closes or ends a child c that was left open in it.
 pub record Follows (c t : List ℕ) : Type 0 where
   pub not_in_p : bytes_eq t p ≡ false
-  pub ends_there : ends_with c t ≡ true
+  pub ends_there : is_ended_by c t ≡ true
   pub yields_on : (k : List ℕ) → is_closed_by_start t k ≡ true → is_closed_by_start c k ≡ true
-  pub ends_on : (k : List ℕ) → ends_with t k ≡ true → ends_with c k ≡ true
+  pub ends_on : (k : List ℕ) → is_ended_by t k ≡ true → is_ended_by c k ≡ true
 
 -- An element n whose start tag is left out before that of its child k stands in a table, and the child's start tag makes it.
 pub record StartIsMade (n k t : List ℕ) : Type 0 where
@@ -68,7 +68,7 @@ SvgIsKept = (t : List ℕ) (g : Option (List ℕ)) → may_stand svg t g ≡ tru
 
 -- no element ends with the end tag of its own name by the table of end tags
 abbrev pub EndsAreOthers : Type 0
-EndsAreOthers = (c n : List ℕ) → ends_with c n ≡ true → bytes_eq c n ≡ false
+EndsAreOthers = (c n : List ℕ) → is_ended_by c n ≡ true → bytes_eq c n ≡ false
 
 -- Where an end tag may be left out:
 -- before a start tag that may stand there too, which then closes the element

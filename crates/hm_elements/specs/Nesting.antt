@@ -58,8 +58,8 @@ abbrev pub without : List (List ℕ) → List (List ℕ) → List (List ℕ)
 without ms [] = []
 without ms (n ∷ ns) = if is_among n ms then without ms ns else n ∷ without ms ns
 
-unfoldable pub yield_rows : List PairRow
-yield_rows =
+unfoldable pub closed_by_start_rows : List PairRow
+closed_by_start_rows =
     row "p" (paragraph_ends ++ words "rt rp" ++ parts)
     ∷ row "li" (words "li")
     ∷ row "dt dd" (words "dt dd")
@@ -73,7 +73,7 @@ yield_rows =
 
 -- The open element closes before a start tag of that name.
 unfoldable pub is_closed_by_start : List ℕ → List ℕ → Bool
-is_closed_by_start current next = if bytes_eq current colgroup then not (bytes_eq next col) else is_pair yield_rows current next
+is_closed_by_start current next = if bytes_eq current colgroup then not (bytes_eq next col) else is_pair closed_by_start_rows current next
 
 unfoldable pub end_rows : List PairRow
 end_rows =
@@ -89,8 +89,8 @@ end_rows =
     ∷ []
 
 -- The open element ends with an end tag of that name.
-unfoldable pub ends_with : List ℕ → List ℕ → Bool
-ends_with child ending = is_pair end_rows child ending
+unfoldable pub is_ended_by : List ℕ → List ℕ → Bool
+is_ended_by child ending = is_pair end_rows child ending
 
 -- The elements that are made under this parent before one of that name opens, innermost first.
 unfoldable pub made_under : List ℕ → List ℕ → List (List ℕ)

@@ -4,7 +4,7 @@ use Rattle.hm_base.specs.Walks.{Element}
 use Rattle.hm_base.specs.declared.limits.TheConstants.{DEPTH_LIMIT}
 use Rattle.hm_elements.specs.Names.{words, is_among, head, noscript, p}
 use Rattle.hm_elements.specs.Tables.{is_raw, holds_text, is_heading, is_unnested, closes_p, is_boundary}
-use Rattle.hm_elements.specs.Nesting.{is_name, may_stand, is_closed_by_start, ends_with, made_under}
+use Rattle.hm_elements.specs.Nesting.{is_name, may_stand, is_closed_by_start, is_ended_by, made_under}
 
 abbrev pub html_element : List ℕ → Element
 html_element n = record { name = n; foreign = false }
@@ -80,7 +80,7 @@ is_closed_by_start_of n e = is_closed_by_start e.name n
 
 -- the open element, of another name, closes with an end tag of that name
 abbrev pub is_closed_by_end_of : List ℕ → Element → Bool
-is_closed_by_end_of n e = not (bytes_eq e.name n) && ends_with e.name n
+is_closed_by_end_of n e = not (bytes_eq e.name n) && is_ended_by e.name n
 
 -- the elements that are made before one of that name opens, innermost first
 abbrev pub made_on : List ℕ → List Element → List Element

@@ -8,7 +8,7 @@ use Rattle.hm_base.specs.RawText.{is_name_end, begins_end_tag, mark_at}
 use Rattle.hm_base.specs.Walks.{Event, doctype, start, text, comment, end}
 use Rattle.hm_elements.specs.Names.{is_among, html, head, body, p, table, colgroup, col, tbody, tr, td, script, svg}
 use Rattle.hm_elements.specs.Tables.{roots, voids, rcdata_names, raw_names, refused_names, headings, sections, parts, blocks, paragraph_ends, boundaries, svg_boundaries, svg_names, unnested_names, is_root, is_void, is_rcdata, is_raw, holds_text, is_refused, is_heading, is_section, is_unnested, closes_p, is_boundary, is_svg_name, holds_svg_text}
-use Rattle.hm_elements.specs.Nesting.{children, noscript_children, own_parents, bound_names, may_stand, yield_rows, is_closed_by_start}
+use Rattle.hm_elements.specs.Nesting.{children, noscript_children, own_parents, bound_names, may_stand, closed_by_start_rows, is_closed_by_start}
 use Rattle.hm_elements.specs.Paths.{is_block_in_p, is_nested, is_deep, blank_parents, is_in_blank}
 use Rattle.hm_elements.specs.Settled.{Settled, no_doctype, no_head, has_top, has_frame, all_events, nests, is_svg_in_place, closes_void, is_text_in_place, is_raw_text, is_comment_in_form, has_attributes_in_form, is_not_deep, is_event_utf8}
 
@@ -54,7 +54,7 @@ sample =
     ++ words_of (codes " ") ++ note ++ around body sample_body ++ note ++ close_tag html ++ note
 
 pub sample_settles : Settled sample
-unfolding sample is_utf8 chars encode is_space is_digit_of lower is_small is_tag_byte is_tag_name is_attribute_byte is_attribute_name is_comment_text is_name_end begins_end_tag mark_at is_among roots voids rcdata_names raw_names refused_names headings sections parts blocks paragraph_ends boundaries svg_boundaries svg_names unnested_names is_root is_void is_rcdata is_raw holds_text is_refused is_heading is_section is_unnested closes_p is_boundary is_svg_name holds_svg_text children noscript_children own_parents bound_names may_stand yield_rows is_closed_by_start is_block_in_p is_nested is_deep blank_parents is_in_blank nests is_svg_in_place closes_void is_text_in_place is_raw_text is_comment_in_form has_attributes_in_form is_not_deep is_event_utf8
+unfolding sample is_utf8 chars encode is_space is_digit_of lower is_small is_tag_byte is_tag_name is_attribute_byte is_attribute_name is_comment_text is_name_end begins_end_tag mark_at is_among roots voids rcdata_names raw_names refused_names headings sections parts blocks paragraph_ends boundaries svg_boundaries svg_names unnested_names is_root is_void is_rcdata is_raw holds_text is_refused is_heading is_section is_unnested closes_p is_boundary is_svg_name holds_svg_text children noscript_children own_parents bound_names may_stand closed_by_start_rows is_closed_by_start is_block_in_p is_nested is_deep blank_parents is_in_blank nests is_svg_in_place closes_void is_text_in_place is_raw_text is_comment_in_form has_attributes_in_form is_not_deep is_event_utf8
 sample_settles = record {
   ends = refl;
   closed = refl;
@@ -99,5 +99,5 @@ each_rule_is_needed : (has_top no_doctype [] (page (doctype false ∷ [])) ≡ f
     × (all_events is_not_deep [] (page (nested_b 510)) ≡ true)
     × (all_events is_not_deep [] (page (nested_b 511)) ≡ false)
     × (all_events is_event_utf8 [] (page (words_of (237 ∷ 160 ∷ 128 ∷ []))) ≡ false)
-unfolding is_utf8 chars encode is_space is_digit_of lower is_small is_tag_byte is_tag_name is_attribute_byte is_attribute_name is_comment_text is_name_end begins_end_tag mark_at is_among roots voids rcdata_names raw_names refused_names headings sections parts blocks paragraph_ends boundaries svg_boundaries svg_names unnested_names is_root is_void is_rcdata is_raw holds_text is_refused is_heading is_section is_unnested closes_p is_boundary is_svg_name holds_svg_text children noscript_children own_parents bound_names may_stand yield_rows is_closed_by_start is_block_in_p is_nested is_deep blank_parents is_in_blank nests is_svg_in_place closes_void is_text_in_place is_raw_text is_comment_in_form has_attributes_in_form is_not_deep is_event_utf8
+unfolding is_utf8 chars encode is_space is_digit_of lower is_small is_tag_byte is_tag_name is_attribute_byte is_attribute_name is_comment_text is_name_end begins_end_tag mark_at is_among roots voids rcdata_names raw_names refused_names headings sections parts blocks paragraph_ends boundaries svg_boundaries svg_names unnested_names is_root is_void is_rcdata is_raw holds_text is_refused is_heading is_section is_unnested closes_p is_boundary is_svg_name holds_svg_text children noscript_children own_parents bound_names may_stand closed_by_start_rows is_closed_by_start is_block_in_p is_nested is_deep blank_parents is_in_blank nests is_svg_in_place closes_void is_text_in_place is_raw_text is_comment_in_form has_attributes_in_form is_not_deep is_event_utf8
 each_rule_is_needed = (refl, refl, refl, refl, refl, refl, refl, refl, refl, refl, refl, refl, refl, refl, refl, refl)

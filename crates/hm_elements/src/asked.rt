@@ -27,16 +27,16 @@ impl Name {
     pub fn is_closed_by_start(self, next: Name) -> bool
         ensures { result ≡ nesting.is_closed_by_start (text_of self.number) (text_of next.number) }
     {
-        pairs::yields().says(self, next)
+        pairs::closed_by_start().says(self, next)
     }
 
     /// Whether the open element ends with the end tag `ending` (#optional-tags,
     /// #closing-elements-that-have-implied-end-tags).
     #[tactic(auto, using(crate::proofs::Told::ends_told))]
-    pub fn ends_with(self, ending: Name) -> bool
-        ensures { result ≡ nesting.ends_with (text_of self.number) (text_of ending.number) }
+    pub fn is_ended_by(self, ending: Name) -> bool
+        ensures { result ≡ nesting.is_ended_by (text_of self.number) (text_of ending.number) }
     {
-        pairs::ends().says(self, ending)
+        pairs::ended_by().says(self, ending)
     }
 
     /// Whether the end tag of the HTML element may be left out before the start tag of the HTML element `next`.

@@ -13,55 +13,79 @@ ghost use Rattle.hm_elements.specs.Tables as tables;
 use crate::name::Name;
 use crate::rows;
 
-// The place of each list's flag.
+/// The place of the flag of `html`, `head` and `body`.
 pub(crate) const ROOT: u8 = 0;
 
+/// The place of the flag of void elements.
 pub(crate) const VOID: u8 = 1;
 
+/// The place of the flag of elements whose text has references and no tags.
 pub(crate) const RCDATA: u8 = 2;
 
+/// The place of the flag of elements whose text is raw.
 pub(crate) const RAW: u8 = 3;
 
+/// The place of the flag of elements that no page may have.
 pub(crate) const REFUSED: u8 = 4;
 
+/// The place of the flag of headings.
 pub(crate) const HEADING: u8 = 5;
 
+/// The place of the flag of sections of a table.
 pub(crate) const SECTION: u8 = 6;
 
+/// The place of the flag of cells of a table.
 pub(crate) const CELL: u8 = 7;
 
+/// The place of the flag of metadata elements.
 pub(crate) const METADATA: u8 = 8;
 
+/// The place of the flag of elements that may not stand in one of their own name.
 pub(crate) const UNNESTED: u8 = 9;
 
+/// The place of the flag of elements whose start tags close a paragraph.
 pub(crate) const CLOSES_P: u8 = 10;
 
+/// The place of the flag of HTML elements through which no paragraph closes.
 pub(crate) const BOUNDARY: u8 = 11;
 
+/// The place of the flag of the same of SVG.
 pub(crate) const SVG_BOUNDARY: u8 = 12;
 
+/// The place of the flag of elements at whose edges whitespace isn't seen.
 pub(crate) const BLOCK: u8 = 13;
 
+/// The place of the flag of names of SVG.
 pub(crate) const SVG: u8 = 14;
 
+/// The place of the flag of elements after whose start tags a line feed is dropped.
 pub(crate) const PREFORMATTED: u8 = 15;
 
+/// The place of the flag of elements that have only whitespace as text.
 pub(crate) const BLANK_PARENT: u8 = 16;
 
+/// The place of the flag of elements that show no whitespace.
 pub(crate) const SPACE_PARENT: u8 = 17;
 
+/// The place of the flag of boolean attributes.
 pub(crate) const BOOLEAN: u8 = 18;
 
+/// The place of the flag of attributes that say nothing if they are blank.
 pub(crate) const NOTHING_BLANK: u8 = 19;
 
+/// The place of the flag of elements that `head` takes.
 pub(crate) const HEAD_TAKER: u8 = 20;
 
+/// The place of the flag of what stands in a `noscript` of `head`.
 pub(crate) const NOSCRIPT_CHILD: u8 = 21;
 
+/// The place of the flag of `noscript`.
 pub(crate) const NOSCRIPT: u8 = 22;
 
+/// The place of the flag of `div`.
 pub(crate) const DIV: u8 = 23;
 
+/// The place of the flag of `dt` and `dd`.
 pub(crate) const DESCRIPTION: u8 = 24;
 
 /// The flags of each number.
@@ -100,6 +124,7 @@ impl Name {
         has_bit(self.flags(), flag)
     }
 
+    /// The flags of the number: a bit for each list.
     #[tactic(auto, using(crate::proofs::FlagFacts::flags_are))]
     fn flags(self) -> u32
         ensures { result ≡ flags_at self.number }

@@ -31,7 +31,7 @@ pub use lists::{
 };
 pub use look_up::{is_one_of, same_name};
 pub use name::Name;
-pub use nesting::{ends_with, is_closed_by_start, may_stand};
+pub use nesting::{is_closed_by_start, is_ended_by, may_stand};
 pub use omission::{
     end_tag_optional_before, end_tag_optional_in, start_tag_optional_before,
     start_tag_required_after, stays_in_head,

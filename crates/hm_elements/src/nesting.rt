@@ -26,10 +26,10 @@ pub fn is_closed_by_start(current: Named<'_>, next: Named<'_>) -> bool
 /// Whether the open element `child` ends with the end tag `ending` (#optional-tags,
 /// #closing-elements-that-have-implied-end-tags).
 #[tactic(auto, using(crate::proofs::Told::ends_named))]
-pub fn ends_with(child: Named<'_>, ending: &str) -> bool
-    ensures { result ≡ nesting.ends_with child.entry.name.now ending.now }
+pub fn is_ended_by(child: Named<'_>, ending: &str) -> bool
+    ensures { result ≡ nesting.is_ended_by child.entry.name.now ending.now }
 {
-    child.number().ends_with(Name::of(ending))
+    child.number().is_ended_by(Name::of(ending))
 }
 
 /// Whether an HTML element `name` may stand under the element `parent`, which itself stands under `grandparent` or at the top
@@ -54,6 +54,7 @@ fn stands_under(name: Name, parent: Name, grandparent: Option<&str>) -> bool
     parent.takes(name) || (parent.is_div() && is_named(grandparent, "dl") && name.is_description())
 }
 
+/// Whether there is a name and it is this one.
 fn is_named(name: Option<&str>, wanted: &str) -> bool
     ensures { result ≡ is_name wanted.now (text_of name.entry) }
 {
@@ -82,6 +83,7 @@ impl Name {
         pairs::parents().says(self, child)
     }
 
+    /// Whether it is `noscript`.
     #[tactic(auto, using(crate::proofs::Told::is_noscript))]
     fn is_noscript(self) -> bool
         ensures { result ≡ bytes_eq (numbers.text_of self.number) noscript }
@@ -97,6 +99,7 @@ impl Name {
         self.is_listed(NOSCRIPT_CHILD)
     }
 
+    /// Whether it is `div`.
     #[tactic(auto, using(crate::proofs::Told::is_div))]
     fn is_div(self) -> bool
         ensures { result ≡ bytes_eq (numbers.text_of self.number) div }

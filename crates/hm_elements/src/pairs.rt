@@ -2,7 +2,7 @@
 ghost use Rattle.std.specs.Prelude.{◌≡◌, length, nat_lt, true};
 ghost use Rattle.std.specs.List.{list_all};
 ghost use Rattle.hm_elements.specs.declared.names.TheConstants.{NAME_COUNT};
-ghost use Rattle.hm_elements.specs.declared.rows.TheConstants.{YIELD_CLASSES, YIELD_MASKS, END_CLASSES, END_MASKS, PARENT_CLASSES, PARENT_MASKS, BEFORE_CLASSES, BEFORE_MASKS, INSIDE_CLASSES, INSIDE_MASKS};
+ghost use Rattle.hm_elements.specs.declared.rows.TheConstants.{CLOSED_CLASSES, CLOSED_MASKS, END_CLASSES, END_MASKS, PARENT_CLASSES, PARENT_MASKS, BEFORE_CLASSES, BEFORE_MASKS, INSIDE_CLASSES, INSIDE_MASKS};
 
 use crate::rows;
 
@@ -17,18 +17,18 @@ pub(crate) struct PairTable {
 }
 
 /// Which open elements close before which start tags.
-pub(crate) fn yields() -> PairTable
-    ensures classes { result.classes.now ≡ YIELD_CLASSES }
-    ensures masks { result.masks.now ≡ YIELD_MASKS }
+pub(crate) fn closed_by_start() -> PairTable
+    ensures classes { result.classes.now ≡ CLOSED_CLASSES }
+    ensures masks { result.masks.now ≡ CLOSED_MASKS }
 {
     PairTable {
-        classes: &rows::YIELD_CLASSES,
-        masks: &rows::YIELD_MASKS,
+        classes: &rows::CLOSED_CLASSES,
+        masks: &rows::CLOSED_MASKS,
     }
 }
 
 /// Which open elements end with which end tags.
-pub(crate) fn ends() -> PairTable
+pub(crate) fn ended_by() -> PairTable
     ensures classes { result.classes.now ≡ END_CLASSES }
     ensures masks { result.masks.now ≡ END_MASKS }
 {

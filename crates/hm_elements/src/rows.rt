@@ -23,7 +23,7 @@ pub(crate) static FLAGS: [u32; NAME_COUNT] = [
 
 /// Open elements that close before the same start tags have one class.
 #[rattlefmt::skip]
-pub(crate) static YIELD_CLASSES: [u8; NAME_COUNT] = [
+pub(crate) static CLOSED_CLASSES: [u8; NAME_COUNT] = [
     0, 0, 0, 0, 0, 0, 0, 0, 0, 0, 0, 0, 0, 0, 0, 0, 0, 0, 0, 0, 0, 0, 0, 0, 0, 0, 0, 0, 1, 0, 0, 0, 0, 0, 0, 0, 0, 2, 0, 0, 0, 0,
     3, 0, 0, 0, 0, 0, 0, 0, 0, 0, 0, 0, 0, 3, 0, 0, 0, 0, 0, 0, 0, 0, 0, 0, 0, 0, 0, 0, 0, 0, 0, 0, 0, 0, 0, 0, 0, 0, 0, 0, 0, 0,
     0, 0, 0, 0, 0, 0, 0, 0, 0, 0, 0, 0, 0, 0, 0, 0, 0, 0, 0, 0, 0, 0, 0, 0, 0, 0, 0, 0, 0, 0, 0, 0, 0, 0, 0, 0, 0, 4, 0, 0, 0, 0,
@@ -34,7 +34,7 @@ pub(crate) static YIELD_CLASSES: [u8; NAME_COUNT] = [
 
 /// Which classes close before the start tag of each name: a bit for each class.
 #[rattlefmt::skip]
-pub(crate) static YIELD_MASKS: [u32; NAME_COUNT] = [
+pub(crate) static CLOSED_MASKS: [u32; NAME_COUNT] = [
     4, 4, 4, 132, 4, 4, 4, 4, 4, 4, 132, 132, 4, 4, 4, 4, 4, 4, 4, 4, 4, 4, 4, 132, 4, 4, 4, 4, 1670, 132, 4, 4, 4, 4, 4, 4, 1666,
     1670, 4, 4, 4, 4, 140, 4, 4, 4, 4, 4, 132, 4, 132, 132, 4, 132, 132, 140, 4, 4, 4, 4, 4, 4, 4, 4, 4, 4, 4, 4, 4, 4, 4, 4, 4,
     4, 4, 4, 4, 4, 4, 4, 4, 4, 4, 4, 132, 132, 132, 4, 4, 132, 132, 4, 4, 4, 4, 132, 132, 132, 132, 132, 132, 4, 132, 132, 132, 4,

@@ -5,7 +5,7 @@ use Rattle.hm_base.specs.Forms.{is_tag_name, is_small, is_tag_byte}
 use Rattle.hm_base.specs.RawText.{begins_end_tag, is_name_end, mark_at}
 use Rattle.hm_base.specs.declared.rules.Rule.TheVariants as rules
 use Rattle.hm_elements.specs.Tables.{is_metadata, roots, refused_names, headings, sections, parts, blocks, paragraph_ends, boundaries, svg_boundaries, svg_names, unnested_names, voids, rcdata_names, raw_names, is_root, is_void, is_refused, is_rcdata, is_raw, holds_text, is_heading, is_section, is_unnested, closes_p, is_boundary, is_svg_name, holds_svg_text}
-use Rattle.hm_elements.specs.Nesting.{children, noscript_children, own_parents, bound_names, may_stand, yield_rows, is_closed_by_start, end_rows, ends_with, made_under}
+use Rattle.hm_elements.specs.Nesting.{children, noscript_children, own_parents, bound_names, may_stand, closed_by_start_rows, is_closed_by_start, end_rows, is_ended_by, made_under}
 use Rattle.hm_elements.specs.Paths.{is_block_in_p, is_nested, is_deep, blank_parents, is_in_blank}
 use Rattle.hm_refs.specs.Names.{found_here}
 use Rattle.hm_refs.specs.Numbers.{point_of}
@@ -41,7 +41,7 @@ trees : (tree [] ≡ in_body [])
     × (tree (0xEF ∷ 0xBB ∷ 0xBF ∷ codes "x") ≡ in_body (text (0xEF ∷ 0xBB ∷ 0xBF ∷ codes "x") false ∷ []))
     × (tree (codes "&#xFEFF;x") ≡ in_body (text (0xEF ∷ 0xBB ∷ 0xBF ∷ codes "x") false ∷ []))
     × (tree (codes "<p>a</p><p>b") ≡ in_body (start p false [] ∷ text (codes "a") false ∷ end p false ∷ start p false [] ∷ text (codes "b") false ∷ end p false ∷ []))
-unfolding fragment_tree page_tree closed_of_source tree_of_source utf8_valid_len is_utf8 chars encode found_here point_of reference value_of first step step_byte step_start step_end step_over is_metadata is_at_end read_tag read_start read_end begins_tag tag_fault is_bad_byte is_name_byte is_later_byte is_unquoted_byte is_inside is_quote is_tag_end attribute_at reference_at read_text begins_markup reference_in read_comment begins_cdata read_cdata read_doctype doctype_form begins_doctype is_letter is_space is_alnum is_digit_of lower is_tag_name is_small is_tag_byte begins_end_tag is_name_end mark_at is_among roots refused_names headings sections parts blocks paragraph_ends boundaries svg_boundaries svg_names unnested_names voids rcdata_names raw_names is_root is_void is_refused is_rcdata is_raw holds_text is_heading is_section is_unnested closes_p is_boundary is_svg_name holds_svg_text children noscript_children own_parents bound_names may_stand yield_rows is_closed_by_start end_rows ends_with made_under is_block_in_p is_nested is_deep blank_parents is_in_blank start_moves end_moves
+unfolding fragment_tree page_tree closed_of_source tree_of_source utf8_valid_len is_utf8 chars encode found_here point_of reference value_of first step step_byte step_start step_end step_over is_metadata is_at_end read_tag read_start read_end begins_tag tag_fault is_bad_byte is_name_byte is_later_byte is_unquoted_byte is_inside is_quote is_tag_end attribute_at reference_at read_text begins_markup reference_in read_comment begins_cdata read_cdata read_doctype doctype_form begins_doctype is_letter is_space is_alnum is_digit_of lower is_tag_name is_small is_tag_byte begins_end_tag is_name_end mark_at is_among roots refused_names headings sections parts blocks paragraph_ends boundaries svg_boundaries svg_names unnested_names voids rcdata_names raw_names is_root is_void is_refused is_rcdata is_raw holds_text is_heading is_section is_unnested closes_p is_boundary is_svg_name holds_svg_text children noscript_children own_parents bound_names may_stand closed_by_start_rows is_closed_by_start end_rows is_ended_by made_under is_block_in_p is_nested is_deep blank_parents is_in_blank start_moves end_moves
 trees = (refl, refl, refl, refl, refl)
 
 refusals : (tree (codes "a</body>") ≡ refused_by rules.FrameEnd 1)
@@ -59,5 +59,5 @@ refusals : (tree (codes "a</body>") ≡ refused_by rules.FrameEnd 1)
     × (tree (codes "<body>") ≡ refused_by rules.SecondRoot 0)
     × (tree (codes "<!doctype html>") ≡ refused_by rules.SecondDoctype 0)
     × (tree (codes "a</body") ≡ refused_by rules.Cut 1)
-unfolding fragment_tree page_tree closed_of_source tree_of_source utf8_valid_len is_utf8 chars encode first step step_byte step_start step_end step_over is_metadata is_at_end read_tag read_start read_end begins_tag tag_fault is_bad_byte is_name_byte is_later_byte is_unquoted_byte is_inside is_quote is_tag_end attribute_at reference_at read_text begins_markup reference_in read_comment begins_cdata read_cdata read_doctype doctype_form begins_doctype is_letter is_space is_alnum is_digit_of lower is_tag_name is_small is_tag_byte begins_end_tag is_name_end mark_at is_among roots refused_names headings sections parts blocks paragraph_ends boundaries svg_boundaries svg_names unnested_names voids rcdata_names raw_names is_root is_void is_refused is_rcdata is_raw holds_text is_heading is_section is_unnested closes_p is_boundary is_svg_name holds_svg_text children noscript_children own_parents bound_names may_stand yield_rows is_closed_by_start end_rows ends_with made_under is_block_in_p is_nested is_deep blank_parents is_in_blank start_moves end_moves
+unfolding fragment_tree page_tree closed_of_source tree_of_source utf8_valid_len is_utf8 chars encode first step step_byte step_start step_end step_over is_metadata is_at_end read_tag read_start read_end begins_tag tag_fault is_bad_byte is_name_byte is_later_byte is_unquoted_byte is_inside is_quote is_tag_end attribute_at reference_at read_text begins_markup reference_in read_comment begins_cdata read_cdata read_doctype doctype_form begins_doctype is_letter is_space is_alnum is_digit_of lower is_tag_name is_small is_tag_byte begins_end_tag is_name_end mark_at is_among roots refused_names headings sections parts blocks paragraph_ends boundaries svg_boundaries svg_names unnested_names voids rcdata_names raw_names is_root is_void is_refused is_rcdata is_raw holds_text is_heading is_section is_unnested closes_p is_boundary is_svg_name holds_svg_text children noscript_children own_parents bound_names may_stand closed_by_start_rows is_closed_by_start end_rows is_ended_by made_under is_block_in_p is_nested is_deep blank_parents is_in_blank start_moves end_moves
 refusals = (refl, refl, refl, refl, refl, refl, refl, refl, refl, refl, refl, refl, refl, refl, refl)

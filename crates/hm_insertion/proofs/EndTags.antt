@@ -8,7 +8,7 @@ use Rattle.hm_base.specs.declared.rules.Rule.{Rule}
 use Rattle.hm_base.specs.declared.rules.Rule.TheVariants.{StrayEnd, NotCurrent, AfterBody, Unclosed}
 use Rattle.hm_elements.specs.Names.{is_among, html, head, body, script}
 use Rattle.hm_elements.specs.Tables.{roots, is_root, is_raw, is_rcdata, raw_names, rcdata_names, holds_text}
-use Rattle.hm_elements.specs.Nesting.{end_rows, ends_with}
+use Rattle.hm_elements.specs.Nesting.{end_rows, is_ended_by}
 use Rattle.hm_elements.specs.Paths.{html_element, is_in_svg, is_in_text, is_open, front, rest_after, is_closed_by_end_of}
 use Rattle.hm_elements.proofs.TableTools.{entry_passes, eq_self, same_bytes}
 use Rattle.hm_open_elements.specs.Moves.{Moves, moves, refuses, end_on, ends_nothing, end_moves}
@@ -112,16 +112,16 @@ text_no_root n h =
         by true k' = cc
         by false k' = refl
 
-text_ends_alone : (n m : List ℕ) → holds_text n ≡ true → ends_with n m ≡ false
-unfolding holds_text is_raw is_rcdata raw_names rcdata_names ends_with end_rows is_among
+text_ends_alone : (n m : List ℕ) → holds_text n ≡ true → is_ended_by n m ≡ false
+unfolding holds_text is_raw is_rcdata raw_names rcdata_names is_ended_by end_rows is_among
 text_ends_alone n m h =
     elim (or_cases (is_raw n) (is_rcdata n) h) [
-      | inl e ↦ negate (entry_passes (λ k. not (ends_with k m)) n (raw_names ++ script ∷ []) refl e)
-      | inr e ↦ negate (entry_passes (λ k. not (ends_with k m)) n rcdata_names refl e)
+      | inl e ↦ negate (entry_passes (λ k. not (is_ended_by k m)) n (raw_names ++ script ∷ []) refl e)
+      | inr e ↦ negate (entry_passes (λ k. not (is_ended_by k m)) n rcdata_names refl e)
     ]
   where
-    negate : not (ends_with n m) ≡ true → ends_with n m ≡ false
-    negate k = by (ends_with n m) k
+    negate : not (is_ended_by n m) ≡ true → is_ended_by n m ≡ false
+    negate k = by (is_ended_by n m) k
       where
         by : (b : Bool) → not b ≡ true → b ≡ false
         by true k' = cc

@@ -4,7 +4,7 @@ use Rattle.hm_base.specs.Bytes.{is_letter, is_space, is_alnum, is_digit_of, lowe
 use Rattle.hm_base.specs.Walks.{Attribute, Event, doctype, start, text, end}
 use Rattle.hm_elements.specs.Names.{is_among, html, head, body, p}
 use Rattle.hm_elements.specs.Tables.{is_metadata, roots, refused_names, headings, sections, parts, blocks, paragraph_ends, boundaries, svg_boundaries, svg_names, unnested_names, voids, rcdata_names, raw_names, is_root, is_void, is_refused, is_rcdata, is_raw, holds_text, is_heading, is_section, is_unnested, closes_p, is_boundary, is_svg_name, holds_svg_text}
-use Rattle.hm_elements.specs.Nesting.{children, noscript_children, own_parents, bound_names, may_stand, yield_rows, is_closed_by_start, end_rows, ends_with, made_under}
+use Rattle.hm_elements.specs.Nesting.{children, noscript_children, own_parents, bound_names, may_stand, closed_by_start_rows, is_closed_by_start, end_rows, is_ended_by, made_under}
 use Rattle.hm_elements.specs.Paths.{is_in_text, is_block_in_p, is_nested, is_deep, blank_parents, is_in_blank}
 use Rattle.hm_open_elements.specs.Moves.{start_moves, end_moves}
 use Rattle.hm_tree.specs.Tokens as tokens
@@ -27,17 +27,17 @@ pub record BeginsLine (st : Construction) : Type 0 where
   pub cells : step st (tokens.start_tag table [] false) ≡ went (before ++ start table false [] ∷ []) (at (inside table under_body))
 
 pub in_body_begins : BeginsLine (at under_body)
-unfolding step step_byte step_start step_end step_over is_metadata is_at_end is_letter is_space is_alnum is_digit_of lower is_among roots refused_names headings sections parts blocks paragraph_ends boundaries svg_boundaries svg_names unnested_names voids rcdata_names raw_names is_root is_void is_refused is_rcdata is_raw holds_text is_heading is_section is_unnested closes_p is_boundary is_svg_name holds_svg_text children noscript_children own_parents bound_names may_stand yield_rows is_closed_by_start end_rows ends_with made_under is_block_in_p is_nested is_deep blank_parents is_in_blank start_moves end_moves
+unfolding step step_byte step_start step_end step_over is_metadata is_at_end is_letter is_space is_alnum is_digit_of lower is_among roots refused_names headings sections parts blocks paragraph_ends boundaries svg_boundaries svg_names unnested_names voids rcdata_names raw_names is_root is_void is_refused is_rcdata is_raw holds_text is_heading is_section is_unnested closes_p is_boundary is_svg_name holds_svg_text children noscript_children own_parents bound_names may_stand closed_by_start_rows is_closed_by_start end_rows is_ended_by made_under is_block_in_p is_nested is_deep blank_parents is_in_blank start_moves end_moves
 in_body_begins = record { mode_is = refl; before = []; paragraph = λ attributes. refl; items = refl; cells = refl }
 
 pub in_head_begins : BeginsLine at_head
-unfolding step step_byte step_start step_end step_over is_metadata is_at_end is_letter is_space is_alnum is_digit_of lower is_among roots refused_names headings sections parts blocks paragraph_ends boundaries svg_boundaries svg_names unnested_names voids rcdata_names raw_names is_root is_void is_refused is_rcdata is_raw holds_text is_heading is_section is_unnested closes_p is_boundary is_svg_name holds_svg_text children noscript_children own_parents bound_names may_stand yield_rows is_closed_by_start end_rows ends_with made_under is_block_in_p is_nested is_deep blank_parents is_in_blank start_moves end_moves
+unfolding step step_byte step_start step_end step_over is_metadata is_at_end is_letter is_space is_alnum is_digit_of lower is_among roots refused_names headings sections parts blocks paragraph_ends boundaries svg_boundaries svg_names unnested_names voids rcdata_names raw_names is_root is_void is_refused is_rcdata is_raw holds_text is_heading is_section is_unnested closes_p is_boundary is_svg_name holds_svg_text children noscript_children own_parents bound_names may_stand closed_by_start_rows is_closed_by_start end_rows is_ended_by made_under is_block_in_p is_nested is_deep blank_parents is_in_blank start_moves end_moves
 in_head_begins = record { mode_is = refl; before = end head false ∷ start body false [] ∷ []; paragraph = λ attributes. refl; items = refl; cells = refl }
 
 -- ---- In a block
 
 pub paragraph_ends_here : step (at (inside p under_body)) (tokens.end_tag p) ≡ went (end p false ∷ []) (at under_body)
-unfolding step step_byte step_start step_end step_over is_metadata is_at_end is_letter is_space is_alnum is_digit_of lower is_among roots refused_names headings sections parts blocks paragraph_ends boundaries svg_boundaries svg_names unnested_names voids rcdata_names raw_names is_root is_void is_refused is_rcdata is_raw holds_text is_heading is_section is_unnested closes_p is_boundary is_svg_name holds_svg_text children noscript_children own_parents bound_names may_stand yield_rows is_closed_by_start end_rows ends_with made_under is_block_in_p is_nested is_deep blank_parents is_in_blank start_moves end_moves
+unfolding step step_byte step_start step_end step_over is_metadata is_at_end is_letter is_space is_alnum is_digit_of lower is_among roots refused_names headings sections parts blocks paragraph_ends boundaries svg_boundaries svg_names unnested_names voids rcdata_names raw_names is_root is_void is_refused is_rcdata is_raw holds_text is_heading is_section is_unnested closes_p is_boundary is_svg_name holds_svg_text children noscript_children own_parents bound_names may_stand closed_by_start_rows is_closed_by_start end_rows is_ended_by made_under is_block_in_p is_nested is_deep blank_parents is_in_blank start_moves end_moves
 paragraph_ends_here = refl
 
 -- an item, and the end of the list
@@ -47,7 +47,7 @@ pub record ItemSteps : Type 0 where
   pub ends : step (at (inside ul under_body)) (tokens.end_tag ul) ≡ went (end ul false ∷ []) (at under_body)
 
 pub item_steps : ItemSteps
-unfolding step step_byte step_start step_end step_over is_metadata is_at_end is_letter is_space is_alnum is_digit_of lower is_among roots refused_names headings sections parts blocks paragraph_ends boundaries svg_boundaries svg_names unnested_names voids rcdata_names raw_names is_root is_void is_refused is_rcdata is_raw holds_text is_heading is_section is_unnested closes_p is_boundary is_svg_name holds_svg_text children noscript_children own_parents bound_names may_stand yield_rows is_closed_by_start end_rows ends_with made_under is_block_in_p is_nested is_deep blank_parents is_in_blank start_moves end_moves
+unfolding step step_byte step_start step_end step_over is_metadata is_at_end is_letter is_space is_alnum is_digit_of lower is_among roots refused_names headings sections parts blocks paragraph_ends boundaries svg_boundaries svg_names unnested_names voids rcdata_names raw_names is_root is_void is_refused is_rcdata is_raw holds_text is_heading is_section is_unnested closes_p is_boundary is_svg_name holds_svg_text children noscript_children own_parents bound_names may_stand closed_by_start_rows is_closed_by_start end_rows is_ended_by made_under is_block_in_p is_nested is_deep blank_parents is_in_blank start_moves end_moves
 item_steps = record { opens = refl; closes = refl; ends = refl }
 
 -- a row makes its section, and the end of the table closes that
@@ -59,7 +59,7 @@ pub record CellSteps : Type 0 where
   pub ends : step (at in_table) (tokens.end_tag table) ≡ went (end tbody false ∷ end table false ∷ []) (at under_body)
 
 pub cell_steps : CellSteps
-unfolding step step_byte step_start step_end step_over is_metadata is_at_end is_letter is_space is_alnum is_digit_of lower is_among roots refused_names headings sections parts blocks paragraph_ends boundaries svg_boundaries svg_names unnested_names voids rcdata_names raw_names is_root is_void is_refused is_rcdata is_raw holds_text is_heading is_section is_unnested closes_p is_boundary is_svg_name holds_svg_text children noscript_children own_parents bound_names may_stand yield_rows is_closed_by_start end_rows ends_with made_under is_block_in_p is_nested is_deep blank_parents is_in_blank start_moves end_moves
+unfolding step step_byte step_start step_end step_over is_metadata is_at_end is_letter is_space is_alnum is_digit_of lower is_among roots refused_names headings sections parts blocks paragraph_ends boundaries svg_boundaries svg_names unnested_names voids rcdata_names raw_names is_root is_void is_refused is_rcdata is_raw holds_text is_heading is_section is_unnested closes_p is_boundary is_svg_name holds_svg_text children noscript_children own_parents bound_names may_stand closed_by_start_rows is_closed_by_start end_rows is_ended_by made_under is_block_in_p is_nested is_deep blank_parents is_in_blank start_moves end_moves
 cell_steps = record { row_opens = refl; cell_opens = refl; cell_closes = refl; row_closes = refl; ends = refl }
 
 -- how the text of each element is read
@@ -99,5 +99,5 @@ pub record HeadingSteps : Type 0 where
   pub title_text : is_in_text (inside title under_head) ≡ true
 
 pub heading_steps : HeadingSteps
-unfolding step step_byte step_start step_end step_over is_metadata is_at_end is_letter is_space is_alnum is_digit_of lower is_among roots refused_names headings sections parts blocks paragraph_ends boundaries svg_boundaries svg_names unnested_names voids rcdata_names raw_names is_root is_void is_refused is_rcdata is_raw holds_text is_heading is_section is_unnested closes_p is_boundary is_svg_name holds_svg_text children noscript_children own_parents bound_names may_stand yield_rows is_closed_by_start end_rows ends_with made_under is_block_in_p is_nested is_deep blank_parents is_in_blank start_moves end_moves
+unfolding step step_byte step_start step_end step_over is_metadata is_at_end is_letter is_space is_alnum is_digit_of lower is_among roots refused_names headings sections parts blocks paragraph_ends boundaries svg_boundaries svg_names unnested_names voids rcdata_names raw_names is_root is_void is_refused is_rcdata is_raw holds_text is_heading is_section is_unnested closes_p is_boundary is_svg_name holds_svg_text children noscript_children own_parents bound_names may_stand closed_by_start_rows is_closed_by_start end_rows is_ended_by made_under is_block_in_p is_nested is_deep blank_parents is_in_blank start_moves end_moves
 heading_steps = record { doctype_first = refl; title_opens = refl; title_closes = refl; line_feed = refl; title_text = refl }

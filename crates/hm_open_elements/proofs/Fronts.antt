@@ -3,7 +3,7 @@ use Rattle.std.proofs.Common.{◌≡◌, ℕ, suc, ◌+◌, ◌-◌, ◌<◌, �
 use Rattle.std.proofs.lemmas.Bool.{both_ways, and_parts}
 use Rattle.hm_base.specs.Walks.{Element}
 use Rattle.hm_elements.specs.Names.{is_among, body}
-use Rattle.hm_elements.specs.Nesting.{yield_rows, is_closed_by_start, end_rows, ends_with}
+use Rattle.hm_elements.specs.Nesting.{closed_by_start_rows, is_closed_by_start, end_rows, is_ended_by}
 use Rattle.hm_elements.specs.Paths.{front, rest_after, is_closed_by_end_of, is_open}
 use Rattle.hm_open_elements.specs.declared.element.OpenElement.{OpenElement}
 use Rattle.hm_open_elements.specs.Elements.{name_of, element_of, path_of, IsPath}
@@ -34,22 +34,22 @@ length-front q (e ∷ path) = by (q e) (length-front q path)
     by false h = omega arith
 
 body_stays : (n : List ℕ) → is_closed_by_start body n ≡ false
-unfolding is_closed_by_start yield_rows is_among
+unfolding is_closed_by_start closed_by_start_rows is_among
 body_stays n = refl
 
 -- what yields isn't body
 pub yields_inside : (m n : List ℕ) → is_closed_by_start m n ≡ true → m ≡ body → ⊥
 yields_inside m n h e = let no : is_closed_by_start m n ≡ false = rw e (body_stays n) in cc
 
-body_ends : (n : List ℕ) → ends_with body n ≡ false
-unfolding ends_with end_rows is_among
+body_ends : (n : List ℕ) → is_ended_by body n ≡ false
+unfolding is_ended_by end_rows is_among
 body_ends n = refl
 
 -- what ends with a tag of another name isn't body
 pub falls_inside : (n : List ℕ) (e : Element) → is_closed_by_end_of n e ≡ true → e.name ≡ body → ⊥
 falls_inside n e h is =
-    let stays : ends_with e.name n ≡ false = rw is (body_ends n) in
-    both_ways (ends_with e.name n) stays (and_parts (not (bytes_eq e.name n)) (ends_with e.name n) h).1
+    let stays : is_ended_by e.name n ≡ false = rw is (body_ends n) in
+    both_ways (is_ended_by e.name n) stays (and_parts (not (bytes_eq e.name n)) (is_ended_by e.name n) h).1
 
 -- an element of that name is open, as far as it was looked for
 abbrev pub IsNotFound : List ℕ → List OpenElement → ℕ → Type 0

@@ -15,7 +15,7 @@ use crate::Made;
 use crate::element::{OpenElement, ScopeFlags};
 use hm_base::{DEPTH_LIMIT, Rule};
 use hm_elements::{
-    Class, Named, ends_with, is_boundary, is_cell, is_closed_by_start, may_stand, same_name,
+    Class, Named, is_boundary, is_cell, is_closed_by_start, is_ended_by, may_stand, same_name,
     svg_name,
 };
 
@@ -248,7 +248,7 @@ fn left_by_implied_ends(elements: &[OpenElement], name: &str) -> usize
 fn is_closed_by_end(current: Named<'_>, ending: &str) -> bool
     ensures { (foreign : Bool) → result ≡ is_closed_by_end_of ending.now (record { name = current.entry.name.now; foreign = foreign }) }
 {
-    !same_name(current.name(), ending) && ends_with(current, ending)
+    !same_name(current.name(), ending) && is_ended_by(current, ending)
 }
 
 /// Whether an element of this name is open. Called only for a page that is refused.

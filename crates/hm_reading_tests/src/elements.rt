@@ -2,9 +2,9 @@
 use crate::printed::is_value;
 use crate::rows::{cut, expect};
 use hm_elements::{
-    Kind, Named, class_of, closes_p, ends_with, holds_text, is_block, is_boolean, is_boundary,
-    is_closed_by_start, is_heading, is_one_of, is_raw, is_refused, is_unnested, is_void, kind_of,
-    may_stand, same_name, svg_name,
+    Kind, Named, class_of, closes_p, holds_text, is_block, is_boolean, is_boundary,
+    is_closed_by_start, is_ended_by, is_heading, is_one_of, is_raw, is_refused, is_unnested,
+    is_void, kind_of, may_stand, same_name, svg_name,
 };
 
 /// A name before ` ⇒ ` in each line, and after it the class of the name.
@@ -260,7 +260,7 @@ fn is_closing(line: &str) -> bool {
         wanted,
         &(
             is_closed_by_start(current, Named::of(next)),
-            ends_with(current, next),
+            is_ended_by(current, next),
         ),
     )
 }

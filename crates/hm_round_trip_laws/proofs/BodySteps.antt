@@ -6,7 +6,7 @@ use Rattle.hm_base.specs.Walks.{Attribute, Event, start, end, comment, Element}
 use Rattle.hm_base.specs.declared.rules.Rule.TheVariants.{RefusedName, SecondRoot, BlockInParagraph, Nested, WrongParent, TooDeep}
 use Rattle.hm_elements.specs.Names.{is_among, html, head, body, svg}
 use Rattle.hm_elements.specs.Tables.{roots, headings, sections, blocks, is_root, is_void, is_refused, holds_text}
-use Rattle.hm_elements.specs.Nesting.{is_closed_by_start, ends_with, made_under, end_rows}
+use Rattle.hm_elements.specs.Nesting.{is_closed_by_start, is_ended_by, made_under, end_rows}
 use Rattle.hm_elements.specs.Paths.{html_element, current, current_name, is_in_svg, is_in_text, stands_on, head_yields, is_open, is_block_in_p, is_nested, is_deep, front, rest_after, is_closed_by_start_of, is_closed_by_end_of, made_on}
 use Rattle.hm_elements.specs.Places.{StartAllowed, HtmlAllowed, SvgAllowed, ElementAllowed}
 use Rattle.hm_elements.specs.Laws.{ParentIs, HoldsMore, StartIsMade}
@@ -136,7 +136,7 @@ comment_steps path drops s = refl
 -- the tag closes or ends the element n
 abbrev pub Closes : List ℕ → Ahead → Type 0
 Closes n (tag (tokens.start_tag m attributes slash)) = is_closed_by_start n m ≡ true
-Closes n (tag (tokens.end_tag m)) = ends_with n m ≡ true
+Closes n (tag (tokens.end_tag m)) = is_ended_by n m ≡ true
 Closes n x = ⊥
 
 -- one more element closes
@@ -194,8 +194,8 @@ unfolding end_rows blocks headings sections is_among
 no_frame_ends = refl
 
 -- no element ends with the end tag of html, head or body
-ends_no_root : (n m : List ℕ) → ends_with n m ≡ true → NoRoot m
-unfolding ends_with
+ends_no_root : (n m : List ℕ) → is_ended_by n m ≡ true → NoRoot m
+unfolding is_ended_by
 ends_no_root n m h =
     let one = and_parts (not (bytes_eq m html)) _ (pair_passes (λ c t. not (bytes_eq t html) && (not (bytes_eq t head) && not (bytes_eq t body))) n m end_rows no_frame_ends h) in
     let two = and_parts (not (bytes_eq m head)) _ one.1 in
@@ -212,11 +212,11 @@ end_on_more m e whole path closed (f ∷ left) somewhere = by (bytes_eq f.name m
     by false true = refl
     by false false = refl
 
-ended_more : (m n : List ℕ) (path : List Element) → is_in_svg path ≡ false → bytes_eq n m ≡ false → ends_with n m ≡ true → after_end_moves (here in_body (html_element n ∷ path) false) (end_moves m (html_element n ∷ path)) ≡ stepped_after_events (end n false ∷ []) (after_end_moves (here in_body path false) (end_moves m path))
+ended_more : (m n : List ℕ) (path : List Element) → is_in_svg path ≡ false → bytes_eq n m ≡ false → is_ended_by n m ≡ true → after_end_moves (here in_body (html_element n ∷ path) false) (end_moves m (html_element n ∷ path)) ≡ stepped_after_events (end n false ∷ []) (after_end_moves (here in_body path false) (end_moves m path))
 unfolding end_moves
 ended_more m n path out other closes = rw (out, other, closes) (end_on_more m (html_element n) path path (front (is_closed_by_end_of m) path) (rest_after (is_closed_by_end_of m) path) (is_open m path))
 
-pub end_closes : (m n : List ℕ) (path : List Element) (drops drops' : Bool) → is_in_svg path ≡ false → holds_text n ≡ false → is_in_text path ≡ false → ends_with n m ≡ true
+pub end_closes : (m n : List ℕ) (path : List Element) (drops drops' : Bool) → is_in_svg path ≡ false → holds_text n ≡ false → is_in_text path ≡ false → is_ended_by n m ≡ true
     → step (here in_body (html_element n ∷ path) drops) (tokens.end_tag m) ≡ stepped_after_events (end n false ∷ []) (step (here in_body path drops') (tokens.end_tag m))
 unfolding step step_end
 end_closes m n path drops drops' out holds holds' closes =

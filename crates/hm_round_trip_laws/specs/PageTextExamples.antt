@@ -8,7 +8,7 @@ use Rattle.hm_base.specs.Source.{text_of}
 use Rattle.hm_base.specs.Walks.{Event, doctype, start, text, end}
 use Rattle.hm_elements.specs.Names.{is_among, body}
 use Rattle.hm_elements.specs.Tables.{roots, voids, rcdata_names, raw_names, refused_names, headings, sections, parts, blocks, paragraph_ends, boundaries, svg_boundaries, unnested_names, is_root, is_void, is_rcdata, is_raw, holds_text, is_refused, is_heading, is_section, is_unnested, closes_p, is_boundary}
-use Rattle.hm_elements.specs.Nesting.{children, noscript_children, own_parents, bound_names, may_stand, yield_rows, is_closed_by_start}
+use Rattle.hm_elements.specs.Nesting.{children, noscript_children, own_parents, bound_names, may_stand, closed_by_start_rows, is_closed_by_start}
 use Rattle.hm_elements.specs.Paths.{html_element, is_block_in_p, is_nested, is_deep, blank_parents, is_in_blank}
 use Rattle.hm_elements.specs.Places.{html_path}
 use Rattle.hm_elements.specs.Settled.{Settled, nests, is_svg_in_place, closes_void, is_text_in_place, is_raw_text, is_comment_in_form, has_attributes_in_form, is_not_deep, is_event_utf8}
@@ -39,7 +39,7 @@ abbrev page : List ℕ
 page = page_doctype ++ paragraph
 
 tree_settles : Settled tree
-unfolding is_utf8 chars encode is_space is_digit_of lower is_small is_tag_byte is_tag_name is_attribute_name is_among roots voids rcdata_names raw_names refused_names headings sections parts blocks paragraph_ends boundaries svg_boundaries unnested_names is_root is_void is_rcdata is_raw holds_text is_refused is_heading is_section is_unnested closes_p is_boundary children noscript_children own_parents bound_names may_stand yield_rows is_closed_by_start is_block_in_p is_nested is_deep blank_parents is_in_blank nests is_svg_in_place closes_void is_text_in_place is_raw_text is_comment_in_form has_attributes_in_form is_not_deep is_event_utf8
+unfolding is_utf8 chars encode is_space is_digit_of lower is_small is_tag_byte is_tag_name is_attribute_name is_among roots voids rcdata_names raw_names refused_names headings sections parts blocks paragraph_ends boundaries svg_boundaries unnested_names is_root is_void is_rcdata is_raw holds_text is_refused is_heading is_section is_unnested closes_p is_boundary children noscript_children own_parents bound_names may_stand closed_by_start_rows is_closed_by_start is_block_in_p is_nested is_deep blank_parents is_in_blank nests is_svg_in_place closes_void is_text_in_place is_raw_text is_comment_in_form has_attributes_in_form is_not_deep is_event_utf8
 tree_settles = record {
   ends = refl;
   closed = refl;

@@ -1,10 +1,11 @@
 //! Doctypes.
 ghost use Rattle.std.specs.Prelude.{◌≡◌, ℕ, ◌^◌, ◌<◌, ◌≤◌, true, drop, length, codes, Some, IfOk, IfErr};
-ghost use Rattle.hm_base.specs.Bytes.{head_is, is_space, strip_word};
+ghost use Rattle.hm_base.specs.Bytes.{strip_word};
 ghost use Rattle.hm_tree.specs.Tokens.{BeginsAt, Reads, refused};
 ghost use Rattle.hm_scan.specs.Doctypes as doctypes;
 
 use crate::search::{after_mark, after_space, after_word, up_to_greater};
+use hm_base::begins_with_space;
 use hm_tree::{ScanFault, Token};
 
 /// Whether a doctype begins at byte `at` of the text: `<!doctype` in any ASCII case (#markup-declaration-open-state).
@@ -17,13 +18,6 @@ pub fn begins_doctype(text: &str, at: u32) -> bool
         after_word(&text.as_bytes()[at as usize..], b"<!doctype"),
         Some(_)
     )
-}
-
-/// Whether the bytes begin with whitespace.
-fn begins_with_space(bytes: &[u8]) -> bool
-    ensures { result ≡ head_is is_space bytes.now }
-{
-    !bytes.is_empty() && hm_base::is_space(char::from(bytes[0]))
 }
 
 /// Whether the bytes are the identifier of the legacy form, and whitespace or none.

@@ -2,6 +2,7 @@
 use Rattle.std.proofs.Common.{◌≡◌, ℕ, ◌<◌, ◌≤◌, Bool, true, false, cond, List, [], ◌∷◌, drop, get_or, refl, subst, arith}
 use Rattle.std.specs.Str.{IsUtf8, IsCharBoundary}
 use Rattle.std.proofs.lemmas.Str.{IsUtf8-drop, IsCharBoundary-after_ascii, IsCharBoundary-from_drop}
+use Rattle.hm_base.proofs.LeadingSpace.{space_ascii}
 use Rattle.hm_base.specs.Bytes.{rest_after, is_space}
 use Rattle.hm_base.specs.RawText.{is_name_end}
 use Rattle.hm_scan.specs.Tags.{is_name_byte, is_later_byte, is_unquoted_byte}
@@ -24,10 +25,6 @@ utf8_after p (c ∷ s) low u = by_test (p c) refl (utf8_after p s low)
 low_ends : (p : ℕ → Bool) (s : List ℕ) (from to : ℕ) → ((c : ℕ) → p c ≡ true → c < 128) → IsUtf8 s → IsCharBoundary s from → IsEndOf p s from to → IsCharBoundary s to
 low_ends p s from to low u b e = IsCharBoundary-from_drop s to e.inside (subst IsUtf8 e.after (utf8_after p (drop from s) low (IsUtf8-drop s from u b)))
 
-space_low : (c : ℕ) → is_space c ≡ true → c < 128
-unfolding is_space
-space_low c h = grind arith
-
 gap_low : (c : ℕ) → is_gap_byte c ≡ true → c < 128
 unfolding is_gap_byte is_space
 gap_low c h = grind arith
@@ -45,7 +42,7 @@ unfolding is_unquoted_byte is_space
 unquoted_high c h = grind arith
 
 pub space_ends : (s : List ℕ) (from to : ℕ) → IsUtf8 s → IsCharBoundary s from → IsEndOf is_space s from to → IsCharBoundary s to
-space_ends s from to u b e = low_ends is_space s from to space_low u b e
+space_ends s from to u b e = low_ends is_space s from to space_ascii u b e
 
 pub gap_ends : (s : List ℕ) (from to : ℕ) → IsUtf8 s → IsCharBoundary s from → IsEndOf is_gap_byte s from to → IsCharBoundary s to
 gap_ends s from to u b e = low_ends is_gap_byte s from to gap_low u b e

@@ -6,6 +6,7 @@ use Rattle.std.proofs.lemmas.Bool.Decides.{Decides-eqb}
 use Rattle.hm_base.specs.Bytes.{all_pass, rest_after, front, head_is, is_digit, is_space, lower, some_passes}
 use Rattle.hm_base.specs.Forms.{is_small, is_tag_byte, is_tag_name}
 use Rattle.hm_base.specs.RawText.{is_name_end}
+use Rattle.hm_base.proofs.Bytes.{front_passes}
 use Rattle.hm_refs.proofs.Digits.{digit_is}
 use Rattle.hm_refs.specs.Reads.{IsEndOf}
 use Rattle.hm_scan.specs.TagPlaces.{IsOrdinaryName, IsPlainName}
@@ -124,14 +125,6 @@ head_at : (p : ℕ → Bool) (s : List ℕ) (n : ℕ) → n < length s → head_
 head_at p [] n h = absurd (omega arith)
 head_at p (c ∷ s) zero h = refl
 head_at p (c ∷ s) (suc n) h = head_at p s n (omega arith)
-
-front_passes : (p : ℕ → Bool) (s : List ℕ) → all_pass p (front p s) ≡ true
-front_passes p [] = refl
-front_passes p (c ∷ s) = by_test (p c) refl (front_passes p s)
-  where
-    by_test : (b : Bool) → p c ≡ b → all_pass p (front p s) ≡ true → all_pass p (cond b (c ∷ front p s) []) ≡ true
-    by_test true e more = rw e more
-    by_test false e more = refl
 
 front_small : (s : List ℕ) → head_is is_small s ≡ true → head_is is_small (front is_tag_byte s) ≡ true
 front_small [] h = h

@@ -1,10 +1,11 @@
 //! Doctypes.
 ghost use Rattle.std.specs.Prelude.{◌≡◌, ℕ, ◌^◌, ◌<◌, ◌≤◌, true, drop, length, codes, Some, IfOk, IfErr};
-ghost use Rattle.hm_base.specs.Bytes.{head_is, is_space, strip_word};
+ghost use Rattle.hm_base.specs.Bytes.{strip_word};
 ghost use Rattle.hm_tree.specs.Tokens.{BeginsAt, Reads, refused};
 ghost use Rattle.hm_scan.specs.Doctypes as doctypes;
 
 use crate::search::{after_mark, after_space, after_word, up_to_greater};
+use hm_base::begins_with_space;
 use hm_tree::{ScanFault, Token};
 
 /// Whether a doctype starts at byte `at` of the text: `<!doctype` in any ASCII case (#markup-declaration-open-state).
@@ -19,14 +20,7 @@ pub fn begins_doctype(text: &str, at: u32) -> bool
     )
 }
 
-/// Whether the bytes start with whitespace.
-fn begins_with_space(bytes: &[u8]) -> bool
-    ensures { result ≡ head_is is_space bytes.now }
-{
-    !bytes.is_empty() && hm_base::is_space(char::from(bytes[0]))
-}
-
-/// Whether the bytes are the identifier of the legacy form, and then only whitespace.
+/// Whether the bytes are the identifier of the legacy form, and whitespace or none.
 fn is_identifier(bytes: &[u8]) -> bool
     ensures { result ≡ doctypes.is_identifier bytes.now }
 {

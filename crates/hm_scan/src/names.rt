@@ -1,6 +1,6 @@
 //! Names of tags and attributes.
 ghost use Rattle.std.specs.Prelude.{◌≡◌, map, string_bytes, true, IfOk, OnOk};
-ghost use Rattle.hm_base.specs.Bytes.{lower, all_pass, some_passes, is_digit};
+ghost use Rattle.hm_base.specs.Bytes.{lower, all_pass, some_passes};
 ghost use Rattle.hm_base.specs.Forms as forms;
 ghost use Rattle.hm_scan.specs.TagPlaces.{IsPlainName};
 ghost use Rattle.hm_scan.specs.Reading as reading;
@@ -50,20 +50,17 @@ pub(crate) fn is_small(byte: u8) -> bool
     byte >= b'a' && byte <= b'z'
 }
 
-/// Whether the byte is an ASCII digit.
-#[tactic(auto, using(hm_refs::proofs::Digits::digit_is))]
-fn is_digit(byte: u8) -> bool
-    ensures { result ≡ is_digit byte }
-{
-    byte.is_ascii_digit()
-}
-
-/// Whether the byte is allowed in the name of an element, after the first one.
-#[tactic(auto, unfolding(hm_base::specs::Forms::is_tag_byte))]
+/// Whether the byte may stand in the name of an element.
+#[tactic(auto, using(hm_refs::proofs::Digits::digit_is), unfolding(hm_base::specs::Forms::is_tag_byte))]
 pub(crate) fn is_tag_byte(byte: u8) -> bool
     ensures { result ≡ forms.is_tag_byte byte }
 {
-    is_small(byte) || is_digit(byte) || byte == b'.' || byte == b'_' || byte == b':' || byte == b'-'
+    is_small(byte)
+        || byte.is_ascii_digit()
+        || byte == b'.'
+        || byte == b'_'
+        || byte == b':'
+        || byte == b'-'
 }
 
 /// Whether all bytes are allowed in the name of an element, after the first one.

@@ -7,16 +7,17 @@ ghost use Rattle.hm_scan.specs.Found.{FindsPlace};
 ghost use Rattle.hm_scan.specs.RawTexts.{read_raw};
 
 use crate::search::after_word;
+use hm_base::is_space_byte;
 use hm_tree::{ScanFault, Token};
 use memchr::memmem;
 
-/// Whether the first byte ends the name of a tag.
-#[tactic(auto, unfolding(hm_base::specs::RawText::is_name_end, hm_base::specs::Bytes::is_space))]
+/// Whether the bytes begin with one that ends the name of a tag.
+#[tactic(auto, unfolding(hm_base::specs::RawText::is_name_end))]
 fn ends_name(bytes: &[u8]) -> bool
     ensures { result ≡ head_is raw.is_name_end bytes.now }
 {
     match bytes.first() {
-        Some(byte) => hm_base::is_space(char::from(*byte)) || *byte == b'/' || *byte == b'>',
+        Some(byte) => is_space_byte(*byte) || *byte == b'/' || *byte == b'>',
         None => false,
     }
 }

@@ -4,6 +4,7 @@ ghost use Rattle.hm_base.specs.Bytes.{cut_at, strip, strip_word, is_space, rest_
 ghost use Rattle.hm_scan.specs.Comments.{begins};
 ghost use Rattle.hm_scan.specs.Found.{Finds};
 
+use hm_base::leading_space;
 use memchr::{memchr, memmem};
 
 /// A piece of a text, the bytes from `from` up to `to`. Its end mark is at `to`, and the bytes after that start at
@@ -92,9 +93,5 @@ pub fn after_word<'t>(bytes: &'t [u8], word: &[u8]) -> Option<&'t [u8]>
 pub fn after_space(bytes: &[u8]) -> &[u8]
     ensures { result.now ≡ rest_after is_space bytes.now }
 {
-    let mut at = 0;
-    while at < bytes.len() && hm_base::is_space(char::from(bytes[at])) {
-        at += 1;
-    }
-    &bytes[at..]
+    &bytes[leading_space(bytes)..]
 }

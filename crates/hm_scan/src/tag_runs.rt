@@ -1,11 +1,11 @@
 //! Runs of bytes of one kind.
 ghost use Rattle.std.specs.Prelude.{◌≡◌, ◌≤◌, length};
-ghost use Rattle.hm_base.specs.Bytes as bytes;
 ghost use Rattle.hm_base.specs.Forms as forms;
 ghost use Rattle.hm_refs.specs.Reads.{IsEndOf};
 ghost use Rattle.hm_scan.specs.TagPlaces.{test_of};
 
 use crate::names::{is_small, is_tag_byte};
+use hm_base::is_space_byte;
 
 /// The kind of bytes that a run has.
 #[derive(Clone, Copy)]
@@ -32,26 +32,19 @@ impl ByteRun {
         ensures { result ≡ test_of self byte }
     {
         match self {
-            ByteRun::Space => is_space(byte),
-            ByteRun::Gap => is_space(byte) || byte == b'/',
-            ByteRun::TagName => !(is_space(byte) || byte == b'/' || byte == b'>'),
+            ByteRun::Space => is_space_byte(byte),
+            ByteRun::Gap => is_space_byte(byte) || byte == b'/',
+            ByteRun::TagName => !(is_space_byte(byte) || byte == b'/' || byte == b'>'),
             ByteRun::Letter => is_small(byte),
             ByteRun::AttributeName => {
-                !(is_space(byte) || byte == b'/' || byte == b'>' || byte == b'=')
+                !(is_space_byte(byte) || byte == b'/' || byte == b'>' || byte == b'=')
             }
-            ByteRun::Unquoted => !(is_space(byte) || byte == b'>'),
+            ByteRun::Unquoted => !(is_space_byte(byte) || byte == b'>'),
         }
     }
 }
 
-/// Whether the byte is ASCII whitespace.
-fn is_space(byte: u8) -> bool
-    ensures { result ≡ bytes.is_space byte }
-{
-    hm_base::is_space(char::from(byte))
-}
-
-/// The end of the run that starts at `from`.
+/// Where the run ends that begins at `from`.
 #[inline(always)]
 pub(crate) fn run_end(bytes: &[u8], from: usize, run: ByteRun) -> usize
     requires { from ≤ length bytes.now }

@@ -2,7 +2,7 @@
 use Rattle.std.proofs.Common.{◌≡◌, ℕ, suc, pred, ◌+◌, ◌-◌, ◌<◌, ◌≤◌, Bool, true, false, ◌==◌, nat_lt, List, [], ◌∷◌, ◌++◌, length, take, drop, Option, Some, None, refl, sym, ap, ap₂, subst, ◌∙◌, arith, length-append, append_assoc, append-nil, ⊎_elim}
 use Rattle.std.specs.Str.{IsUtf8}
 use Rattle.std.specs.Str.Lossy.{utf8_valid_len, utf8_error_len}
-use Rattle.std.proofs.lemmas.Bool.{cases_lt, le-ltb, lt-ltb}
+use Rattle.std.proofs.lemmas.Bool.{cases_lt}
 use Rattle.std.proofs.lemmas.Bool.Decides.{nat_tests}
 use Rattle.std.proofs.lemmas.List.{drop_at, length-drop, length-take-le, take_at}
 use Rattle.hm_base.specs.declared.rules.Rule.{Rule}
@@ -22,11 +22,17 @@ use Rattle.hm_decoder.proofs.Texts.{before_return, cut, front_byte, last_return,
 
 -- ---- the fault so far
 
+within_test : (limit n : ℕ) → n ≤ limit → nat_lt limit n ≡ false
+within_test limit n l = grind (arith, nat_tests)
+
+over_test : (limit n : ℕ) → limit < n → nat_lt limit n ≡ true
+over_test limit n l = grind (arith, nat_tests)
+
 pub fault_within : (limit : ℕ) (s : List ℕ) → length s ≤ limit → fault_so_far limit s ≡ told_at 0 (lasting_fault s)
-fault_within limit s l = rw (le-ltb limit (length s) l) refl
+fault_within limit s l = rw (within_test limit (length s) l) refl
 
 pub fault_over : (limit : ℕ) (s : List ℕ) → limit < length s → fault_so_far limit s ≡ Some (rules.TooLong, limit)
-fault_over limit s l = rw (lt-ltb limit (length s) l) refl
+fault_over limit s l = rw (over_test limit (length s) l) refl
 
 no_some : {A : Type 0} {x : A} → Some x ≡ None → ⊥
 no_some e = cc
@@ -138,10 +144,10 @@ feeds_on p q gone fed piece h none l m i j fault source undecided =
 -- ---- the end of the page
 
 pub page_within : (limit : ℕ) (s : List ℕ) → length s ≤ limit → fault_of_page limit s ≡ told_at 0 (text_fault s)
-page_within limit s l = rw (le-ltb limit (length s) l) refl
+page_within limit s l = rw (within_test limit (length s) l) refl
 
 pub page_over : (limit : ℕ) (s : List ℕ) → limit < length s → fault_of_page limit s ≡ Some (rules.TooLong, limit)
-page_over limit s l = rw (lt-ltb limit (length s) l) refl
+page_over limit s l = rw (over_test limit (length s) l) refl
 
 told_of_page : (s : List ℕ) (f : Rule × ℕ) → told_at 0 (lasting_fault s) ≡ Some f → told_at 0 (lasting_fault s) ≡ told_at 0 (text_fault s)
 told_of_page s f e = by (lasting_fault s) refl e

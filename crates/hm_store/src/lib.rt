@@ -18,5 +18,5 @@ mod whole_files;
 pub use mem_sink::MemSink;
 pub use mem_store::MemStore;
 pub use outside::{FileStore, WriteSink};
-pub use traits::{Failed, Sink, Store};
+pub use traits::{Failed, PIECE_SIZE, Sink, Store};
 pub use whole_files::{LoadFault, load, load_over, load_with_prefix, write_file};

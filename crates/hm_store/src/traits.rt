@@ -10,6 +10,9 @@ ghost use Rattle.hm_store.specs.Files.{FileMap, IsMissing, Opens, Pulls, PutsFro
 #[derive(Clone, Copy, PartialEq, Eq)]
 pub struct Failed;
 
+/// The most bytes that are pulled from a file at once, and how many bytes of a long output wait to be put together.
+pub const PIECE_SIZE: usize = 65_536;
+
 /// A store of files by name, of which at most one is being read and at most one is being written.
 pub trait Store {
     // the files, if they are known

@@ -5,7 +5,7 @@ ghost use Rattle.hm_store.specs.Causes.{Rose, HasCause};
 ghost use Rattle.hm_store.specs.Files.{file_of, with_file, Takes, IsMissing, HasFront};
 ghost use Rattle.hm_store.specs.Loading.{FollowsOn};
 
-use crate::{Failed, Store};
+use crate::{Failed, PIECE_SIZE, Store};
 use std::alloc::{AllocError, Global};
 
 /// Why a file isn't loaded.
@@ -28,11 +28,8 @@ impl From<AllocError> for LoadFault {
     }
 }
 
-/// The most bytes that one pull reads.
-const PIECE: usize = 65_536;
-
-/// Appends the next bytes of the file that is being read to `bytes`, and returns whether there were any. `piece` is the
-/// buffer for one pull.
+/// Appends the next bytes of the file that is being read to `bytes`, and returns whether there were any. They are
+/// pulled into a piece that is used again.
 fn pull_more<S: Store>(
     store: &mut S,
     piece: &mut [u8],
@@ -84,7 +81,7 @@ fn pull_all<S: Store>(
     ensures failed { result ≡ Err LoadFault.Store → Rose (S.faults store.old) (S.faults store.new) }
     ensures steady { OnOk result (S.faults store.new ≡ S.faults store.old) }
 {
-    let mut piece = [0u8; PIECE];
+    let mut piece = [0u8; PIECE_SIZE];
     let mut bytes = Vec::new(alloc);
     bytes.extend_from_slice(front)?;
     let most = front.len() + limit;
@@ -170,7 +167,7 @@ fn pull_over<S: Store>(store: &mut S, bytes: &mut Vec<u8>, limit: usize) -> Resu
     ensures failed { result ≡ Err LoadFault.Store → Rose (S.faults store.old) (S.faults store.new) }
     ensures steady { OnOk result (S.faults store.new ≡ S.faults store.old) }
 {
-    let mut piece = [0u8; PIECE];
+    let mut piece = [0u8; PIECE_SIZE];
     let mut at = 0;
     let mut is_expected = true;
     while at <= limit {

@@ -1,7 +1,6 @@
 -- How a look through a list of names goes on.
-use Rattle.std.proofs.Common.{◌≡◌, ℕ, ◌+◌, ◌<◌, ◌≤◌, true, false, ◌||◌, List, [], ◌∷◌, ◌++◌, length, drop, get_or, bytes_eq, refl, sym, ap, ◌∙◌}
+use Rattle.std.proofs.Common.{◌≡◌, ℕ, ◌+◌, ◌<◌, ◌≤◌, true, false, ◌||◌, List, length, drop, get_or, bytes_eq, refl}
 use Rattle.std.proofs.lemmas.List.{at_drop_more, at_drop_all}
-use Rattle.std.proofs.Math.Bool.{or_assoc}
 use denote.Ref.{Bor}
 use Rattle.hm_elements.specs.Names.{is_among}
 use Rattle.hm_elements.specs.Texts.{texts}

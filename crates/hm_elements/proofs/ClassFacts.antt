@@ -2,7 +2,7 @@
 use Rattle.std.proofs.Common.{◌≡◌, ℕ, Bool, true, false, List, refl}
 use Rattle.std.specs.List.{list_all}
 use Rattle.hm_base.specs.Walks.{same_flag}
-use Rattle.hm_elements.specs.Classes.{holds_nothing, holds_raw_text, holds_one_text, is_not_read}
+use Rattle.hm_elements.specs.Classes.{holds_nothing, holds_one_text, is_not_read}
 use Rattle.hm_elements.specs.Names.{is_among}
 use Rattle.hm_elements.specs.Tables.{roots, voids, rcdata_names, raw_names, refused_names, parts, is_root, is_void, is_rcdata, is_raw, holds_text, is_refused, is_table_part, class_of}
 use Rattle.hm_elements.proofs.TableTools.{entry_passes}

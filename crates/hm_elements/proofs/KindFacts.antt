@@ -1,5 +1,5 @@
 -- The kinds by number are those of the names.
-use Rattle.std.proofs.Common.{◌≡◌, ℕ, ◌<◌, length, get_or, Bool, true, false, ◌==◌, List, [], ◌∷◌, map, refl, sym, ap, ◌∙◌, lit<, arith}
+use Rattle.std.proofs.Common.{◌≡◌, ℕ, ◌<◌, get_or, Bool, true, false, ◌==◌, List, [], map, refl, sym, ap, ◌∙◌}
 use Rattle.std.specs.List.{list_all}
 use Rattle.std.proofs.lemmas.Bool.{both_ways}
 use Rattle.std.proofs.lemmas.List.{get_or-map}
@@ -7,8 +7,8 @@ use Rattle.hm_elements.specs.declared.kind.Kind.{Kind}
 use Rattle.hm_elements.specs.declared.names.TheConstants.{NAME_COUNT}
 use Rattle.hm_elements.specs.Kinds.{kind, other}
 use Rattle.hm_elements.specs.Names.{is_among}
-use Rattle.hm_elements.specs.Numbers.{names, place, number_of, text_of}
-use Rattle.hm_elements.proofs.Finding.{many, text_of_listed, number_of_listed, number_of_other, same_asked}
+use Rattle.hm_elements.specs.Numbers.{names, number_of, text_of}
+use Rattle.hm_elements.proofs.Finding.{many, text_of_listed, number_of_other, same_asked}
 use Rattle.hm_elements.proofs.Listed.{listed, is_listed, no_class, no_heading, not_unnested, closes_no_p, no_boundary, no_block, no_colgroup, no_yields, not_before_p, no_ends, not_after_p, no_children, no_parents, not_bound}
 use Rattle.hm_elements.proofs.TableTools.{none_among}
 

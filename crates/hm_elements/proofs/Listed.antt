@@ -3,7 +3,7 @@ use Rattle.std.proofs.Common.{◌≡◌, ℕ, Bool, true, false, ◌&&◌, List,
 use Rattle.std.specs.List.{list_all}
 use Rattle.std.proofs.lemmas.Bool.{and_parts}
 use Rattle.hm_elements.specs.declared.class.Class.TheVariants.{Ordinary}
-use Rattle.hm_elements.specs.Kinds.{kind, has_row}
+use Rattle.hm_elements.specs.Kinds.{has_row}
 use Rattle.hm_elements.specs.Names.{words, is_among, PairRow, find, p, table, colgroup, script}
 use Rattle.hm_elements.specs.Nesting.{without, children, own_parents, bound_names, closed_by_start_rows, end_rows, is_closed_by_start, is_ended_by}
 use Rattle.hm_elements.specs.Tables.{roots, voids, rcdata_names, raw_names, refused_names, headings, sections, parts, blocks, paragraph_ends, boundaries, block_names, unnested_names, is_root, is_void, is_rcdata, is_raw, is_refused, is_heading, is_unnested, closes_p, is_boundary, is_block, is_table_part, class_of}

@@ -1,5 +1,5 @@
 -- What the checker computes of the table of numbers.
-use Rattle.std.proofs.Common.{◌≡◌, ℕ, ◌<◌, get_or, nat_lt, true, List, drop, refl, lit<, arith}
+use Rattle.std.proofs.Common.{◌≡◌, ℕ, ◌<◌, get_or, nat_lt, true, List, drop, refl, lit<}
 use Rattle.std.specs.List.{list_all}
 use Rattle.hm_elements.specs.declared.names.TheConstants.{NAME_COUNT}
 use Rattle.hm_elements.specs.declared.slots.TheConstants.{SLOTS}

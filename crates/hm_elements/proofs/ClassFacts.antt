@@ -2,7 +2,7 @@
 use Rattle.std.proofs.Common.{◌≡◌, ℕ, Bool, true, false, List, refl}
 use Rattle.std.specs.List.{list_all}
 use Rattle.hm_base.specs.Walks.{same_flag}
-use Rattle.hm_elements.specs.Classes.{holds_nothing, holds_raw_text, holds_one_text, is_not_read}
+use Rattle.hm_elements.specs.Classes.{holds_nothing, holds_one_text, is_not_read}
 use Rattle.hm_elements.specs.Names.{is_among}
 use Rattle.hm_elements.specs.Tables.{roots, voids, rcdata_names, raw_names, refused_names, parts, is_root, is_void, is_rcdata, is_raw, holds_text, is_refused, is_table_part, class_of}
 use Rattle.hm_elements.proofs.TableTools.{entry_passes}
@@ -27,17 +27,6 @@ listed_voids = refl
 pub void_by_class : (n : List ℕ) → holds_nothing (class_of n) ≡ is_void n
 unfolding void_agrees
 void_by_class n = same_is (holds_nothing (class_of n)) (is_void n) (by_list void_agrees n listed_voids (λ e. rw (no_class n e, no_void n e) refl))
-
-raw_agrees : List ℕ → Bool
-raw_agrees n = same_flag (holds_raw_text (class_of n)) (is_raw n)
-
-listed_raws : list_all raw_agrees listed ≡ true
-unfolding raw_agrees class_of is_root roots is_void voids is_rcdata rcdata_names is_raw raw_names is_table_part parts is_refused refused_names is_among
-listed_raws = refl
-
-pub raw_by_class : (n : List ℕ) → holds_raw_text (class_of n) ≡ is_raw n
-unfolding raw_agrees
-raw_by_class n = same_is (holds_raw_text (class_of n)) (is_raw n) (by_list raw_agrees n listed_raws (λ e. rw (no_class n e, no_raw n e) refl))
 
 text_agrees : List ℕ → Bool
 text_agrees n = same_flag (holds_one_text (class_of n)) (holds_text n)

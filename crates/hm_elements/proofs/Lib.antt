@@ -7,9 +7,13 @@ pub mod Chain
 pub mod Gathered
 pub mod RawEnds
 pub mod NameFacts
-pub mod NestingFacts
 pub mod Listed
-pub mod KnownFacts
 pub mod ClassFacts
 pub mod Defaults
-pub mod OmissionFacts
+pub mod Places
+pub mod SlotFacts
+pub mod Finding
+pub mod KindFacts
+pub mod PairFacts
+pub mod FlagFacts
+pub mod Told

@@ -3,8 +3,7 @@ use Rattle.std.proofs.Common.{◌≡◌, ℕ, Bool, true, false, ◌&&◌, List,
 use Rattle.std.specs.List.{list_all}
 use Rattle.std.proofs.lemmas.Bool.{and_parts}
 use Rattle.hm_elements.specs.declared.class.Class.TheVariants.{Ordinary}
-use Rattle.hm_elements.specs.Kinds.{kind, has_row}
-use Rattle.hm_elements.specs.KnownNames.{other}
+use Rattle.hm_elements.specs.Kinds.{has_row}
 use Rattle.hm_elements.specs.Names.{words, is_among, PairRow, find, p, table, colgroup, script}
 use Rattle.hm_elements.specs.Nesting.{without, children, own_parents, bound_names, yield_rows, end_rows, is_closed_by_start, ends_with}
 use Rattle.hm_elements.specs.Tables.{roots, voids, rcdata_names, raw_names, refused_names, headings, sections, parts, blocks, paragraph_ends, boundaries, block_names, unnested_names, is_root, is_void, is_rcdata, is_raw, is_refused, is_heading, is_unnested, closes_p, is_boundary, is_block, is_table_part, class_of}
@@ -65,58 +64,54 @@ pub no_class : (n : List ℕ) → is_listed n ≡ false → class_of n ≡ Ordin
 unfolding class_of
 no_class n none = rw (no_root n none, no_void n none, no_rcdata n none, no_raw n none, no_table_part n none, not_refused n none) refl
 
-no_heading : (n : List ℕ) → is_listed n ≡ false → is_heading n ≡ false
+pub no_heading : (n : List ℕ) → is_listed n ≡ false → is_heading n ≡ false
 unfolding is_heading headings is_among
 no_heading n none = unlisted n headings none refl
 
-not_unnested : (n : List ℕ) → is_listed n ≡ false → is_unnested n ≡ false
+pub not_unnested : (n : List ℕ) → is_listed n ≡ false → is_unnested n ≡ false
 unfolding is_unnested unnested_names is_among
 not_unnested n none = unlisted n unnested_names none refl
 
-closes_no_p : (n : List ℕ) → is_listed n ≡ false → closes_p n ≡ false
+pub closes_no_p : (n : List ℕ) → is_listed n ≡ false → closes_p n ≡ false
 unfolding closes_p paragraph_ends blocks headings is_among
 closes_no_p n none = unlisted n paragraph_ends none refl
 
-no_boundary : (n : List ℕ) → is_listed n ≡ false → is_boundary n false ≡ false
+pub no_boundary : (n : List ℕ) → is_listed n ≡ false → is_boundary n false ≡ false
 unfolding is_boundary boundaries is_among
 no_boundary n none = unlisted n boundaries none refl
 
-no_block : (n : List ℕ) → is_listed n ≡ false → is_block n ≡ false
+pub no_block : (n : List ℕ) → is_listed n ≡ false → is_block n ≡ false
 unfolding is_block block_names blocks headings is_among
 no_block n none = unlisted n block_names none refl
 
-not_bound : (n : List ℕ) → is_listed n ≡ false → is_among n bound_names ≡ false
+pub not_bound : (n : List ℕ) → is_listed n ≡ false → is_among n bound_names ≡ false
 unfolding bound_names parts is_among
 not_bound n none = unlisted n bound_names none refl
 
-no_children : (n : List ℕ) → is_listed n ≡ false → has_row children n ≡ false
+pub no_children : (n : List ℕ) → is_listed n ≡ false → has_row children n ≡ false
 unfolding children sections voids rcdata_names raw_names is_among
 no_children n none = rw (no_row n children none refl) refl
 
-no_parents : (n : List ℕ) → is_listed n ≡ false → has_row own_parents n ≡ false
+pub no_parents : (n : List ℕ) → is_listed n ≡ false → has_row own_parents n ≡ false
 unfolding own_parents is_among
 no_parents n none = rw (no_row n own_parents none refl) refl
 
-no_yields : (n : List ℕ) → is_listed n ≡ false → has_row yield_rows n ≡ false
+pub no_yields : (n : List ℕ) → is_listed n ≡ false → has_row yield_rows n ≡ false
 unfolding yield_rows is_among
 no_yields n none = rw (no_row n yield_rows none refl) refl
 
-no_ends : (n : List ℕ) → is_listed n ≡ false → has_row end_rows n ≡ false
+pub no_ends : (n : List ℕ) → is_listed n ≡ false → has_row end_rows n ≡ false
 unfolding end_rows is_among
 no_ends n none = rw (no_row n end_rows none refl) refl
 
-not_before_p : (n : List ℕ) → is_listed n ≡ false → is_closed_by_start p n ≡ false
+pub not_before_p : (n : List ℕ) → is_listed n ≡ false → is_closed_by_start p n ≡ false
 unfolding is_closed_by_start yield_rows paragraph_ends blocks headings parts is_among
 not_before_p n none = unlisted n (paragraph_ends ++ words "rt rp" ++ parts) none refl
 
-not_after_p : (n : List ℕ) → is_listed n ≡ false → ends_with p n ≡ false
+pub not_after_p : (n : List ℕ) → is_listed n ≡ false → ends_with p n ≡ false
 unfolding ends_with end_rows blocks headings sections is_among
 not_after_p n none = unlisted n (without (words "hr p") blocks ++ words "button li dd dt object td th caption tr" ++ sections) none refl
 
-no_colgroup : (n : List ℕ) → is_listed n ≡ false → bytes_eq n colgroup ≡ false
+pub no_colgroup : (n : List ℕ) → is_listed n ≡ false → bytes_eq n colgroup ≡ false
 unfolding is_among
 no_colgroup n none = not_among n colgroup listed none refl
-
--- a name that isn't listed is of no kind
-pub unlisted_kind : (n : List ℕ) → is_listed n ≡ false → kind n ≡ other
-unlisted_kind n none = rw (no_class n none, no_heading n none, not_unnested n none, closes_no_p n none, no_boundary n none, no_block n none, no_colgroup n none, no_yields n none, not_before_p n none, no_ends n none, not_after_p n none, no_children n none, no_parents n none, not_bound n none) refl

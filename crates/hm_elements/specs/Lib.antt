@@ -1,13 +1,14 @@
 pub mod Attributes
 pub mod Classes
 pub mod Kinds
-pub mod KnownNames
 pub mod Laws
 pub mod Names
 pub mod Nesting
+pub mod Numbers
 pub mod Omission
 pub mod Paths
 pub mod Places
+pub mod Rows
 pub mod Sample
 pub mod Settled
 pub mod Tables

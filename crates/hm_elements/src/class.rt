@@ -3,6 +3,9 @@ ghost use Rattle.std.specs.Prelude.{◌≡◌};
 ghost use Rattle.hm_elements.specs.Classes as classes;
 ghost use Rattle.hm_elements.specs.Tables as tables;
 
+use crate::flags::{
+    BLOCK, BOOLEAN, BOUNDARY, CLOSES_P, HEADING, RAW, REFUSED, SVG, UNNESTED, VOID, is_listed,
+};
 use crate::kind::kind_of;
 use crate::look_up::is_one_of;
 
@@ -34,25 +37,11 @@ impl Class {
         matches!(self, Class::Void)
     }
 
-    /// Whether its elements hold one text, in which nothing is read.
-    fn holds_raw_text(self) -> bool
-        ensures { result ≡ classes.holds_raw_text self }
-    {
-        matches!(self, Class::Raw | Class::Script)
-    }
-
     /// Whether elements of this class hold one text and nothing else.
     pub fn holds_one_text(self) -> bool
         ensures { result ≡ classes.holds_one_text self }
     {
         matches!(self, Class::Rcdata | Class::Raw | Class::Script)
-    }
-
-    /// Whether a page with one of its elements is refused.
-    fn is_not_read(self) -> bool
-        ensures { result ≡ classes.is_not_read self }
-    {
-        matches!(self, Class::Refused)
     }
 }
 
@@ -64,19 +53,19 @@ pub fn class_of(name: &str) -> Class
 }
 
 /// Whether the HTML element holds nothing and has no end tag (#elements-2).
-#[tactic(auto, using(crate::proofs::ClassFacts::void_by_class))]
+#[tactic(auto, unfolding(crate::specs::Rows::listed_at, crate::specs::Rows::flags, crate::specs::Tables::is_void))]
 pub fn is_void(name: &str) -> bool
     ensures { result ≡ tables.is_void name.now }
 {
-    kind_of(name).class.holds_nothing()
+    is_listed(name, VOID)
 }
 
 /// Whether the HTML element holds one text, in which nothing is read; `script` is one of them.
-#[tactic(auto, using(crate::proofs::ClassFacts::raw_by_class))]
+#[tactic(auto, unfolding(crate::specs::Rows::listed_at, crate::specs::Rows::flags, crate::specs::Tables::is_raw))]
 pub fn is_raw(name: &str) -> bool
     ensures { result ≡ tables.is_raw name.now }
 {
-    kind_of(name).class.holds_raw_text()
+    is_listed(name, RAW)
 }
 
 /// Whether the HTML element holds one text and nothing else.
@@ -88,157 +77,69 @@ pub fn holds_text(name: &str) -> bool
 }
 
 /// Whether a page with this element is refused.
-#[tactic(auto, using(crate::proofs::ClassFacts::refused_by_class))]
+#[tactic(auto, unfolding(crate::specs::Rows::listed_at, crate::specs::Rows::flags, crate::specs::Tables::is_refused))]
 pub fn is_refused(name: &str) -> bool
     ensures { result ≡ tables.is_refused name.now }
 {
-    kind_of(name).class.is_not_read()
+    is_listed(name, REFUSED)
 }
 
 /// Whether it is one of `h1` to `h6`.
+#[tactic(auto, unfolding(crate::specs::Rows::listed_at, crate::specs::Rows::flags, crate::specs::Tables::is_heading))]
 pub fn is_heading(name: &str) -> bool
     ensures { result ≡ tables.is_heading name.now }
 {
-    kind_of(name).heading
+    is_listed(name, HEADING)
 }
 
 /// Whether the element may not stand in one of its own name.
+#[tactic(auto, unfolding(crate::specs::Rows::listed_at, crate::specs::Rows::flags, crate::specs::Tables::is_unnested))]
 pub fn is_unnested(name: &str) -> bool
     ensures { result ≡ tables.is_unnested name.now }
 {
-    kind_of(name).unnested
+    is_listed(name, UNNESTED)
 }
 
 /// Whether a start tag of this name closes an open paragraph (#parsing-main-inbody).
+#[tactic(auto, unfolding(crate::specs::Rows::listed_at, crate::specs::Rows::flags, crate::specs::Tables::closes_p))]
 pub fn closes_p(name: &str) -> bool
     ensures { result ≡ tables.closes_p name.now }
 {
-    kind_of(name).closes_p
+    is_listed(name, CLOSES_P)
 }
 
 /// Whether a paragraph is never closed through this open element, of HTML or of SVG.
-#[tactic(auto, unfolding(crate::specs::Tables::is_boundary, crate::specs::Tables::svg_boundaries))]
+#[tactic(auto, unfolding(crate::specs::Rows::listed_at, crate::specs::Rows::flags, crate::specs::Tables::is_boundary, crate::specs::Tables::svg_boundaries))]
 pub fn is_boundary(name: &str, foreign: bool) -> bool
     ensures { result ≡ tables.is_boundary name.now foreign }
 {
     if foreign {
         is_one_of(name, &["title", "desc"])
     } else {
-        kind_of(name).boundary
+        is_listed(name, BOUNDARY)
     }
 }
 
 /// Whether whitespace at the edges of the HTML element isn't seen.
+#[tactic(auto, unfolding(crate::specs::Rows::listed_at, crate::specs::Rows::flags, crate::specs::Tables::is_block))]
 pub fn is_block(name: &str) -> bool
     ensures { result ≡ tables.is_block name.now }
 {
-    kind_of(name).block
+    is_listed(name, BLOCK)
 }
 
 /// Whether the attribute's value says nothing.
-#[tactic(auto, unfolding(crate::specs::Tables::is_boolean, crate::specs::Tables::boolean_attributes))]
+#[tactic(auto, unfolding(crate::specs::Rows::listed_at, crate::specs::Rows::flags, crate::specs::Tables::is_boolean))]
 pub fn is_boolean(attribute: &str) -> bool
     ensures { result ≡ tables.is_boolean attribute.now }
 {
-    is_one_of(
-        attribute,
-        &[
-            "allowfullscreen",
-            "async",
-            "autofocus",
-            "autoplay",
-            "checked",
-            "controls",
-            "default",
-            "defer",
-            "disabled",
-            "formnovalidate",
-            "inert",
-            "ismap",
-            "itemscope",
-            "loop",
-            "multiple",
-            "muted",
-            "nomodule",
-            "novalidate",
-            "open",
-            "playsinline",
-            "readonly",
-            "required",
-            "reversed",
-            "selected",
-        ],
-    )
+    is_listed(attribute, BOOLEAN)
 }
 
-const SVG: [&str; 61] = [
-    "a",
-    "animate",
-    "animatemotion",
-    "animatetransform",
-    "circle",
-    "clippath",
-    "defs",
-    "desc",
-    "ellipse",
-    "feblend",
-    "fecolormatrix",
-    "fecomponenttransfer",
-    "fecomposite",
-    "feconvolvematrix",
-    "fediffuselighting",
-    "fedisplacementmap",
-    "fedistantlight",
-    "fedropshadow",
-    "feflood",
-    "fefunca",
-    "fefuncb",
-    "fefuncg",
-    "fefuncr",
-    "fegaussianblur",
-    "feimage",
-    "femerge",
-    "femergenode",
-    "femorphology",
-    "feoffset",
-    "fepointlight",
-    "fespecularlighting",
-    "fespotlight",
-    "fetile",
-    "feturbulence",
-    "filter",
-    "g",
-    "image",
-    "line",
-    "lineargradient",
-    "marker",
-    "mask",
-    "metadata",
-    "mpath",
-    "path",
-    "pattern",
-    "polygon",
-    "polyline",
-    "radialgradient",
-    "rect",
-    "set",
-    "stop",
-    "style",
-    "svg",
-    "switch",
-    "symbol",
-    "text",
-    "textpath",
-    "title",
-    "tspan",
-    "use",
-    "view",
-];
-
 /// Whether SVG has an element of this name that is read, in lowercase letters (#elements-2).
-#[tactic(auto, unfolding(crate::specs::Tables::is_svg_name, crate::specs::Tables::svg_names))]
+#[tactic(auto, unfolding(crate::specs::Rows::listed_at, crate::specs::Rows::flags, crate::specs::Tables::is_svg_name))]
 pub fn svg_name(name: &str) -> bool
     ensures { result ≡ tables.is_svg_name name.now }
 {
-    is_one_of(name, &SVG)
+    is_listed(name, SVG)
 }

@@ -1,18 +1,21 @@
 //! What the tables say of a name, all at once.
-ghost use Rattle.std.specs.Prelude.{◌≡◌};
+ghost use Rattle.std.specs.Prelude.{◌≡◌, length, map};
 ghost use Rattle.std.specs.Option.{ForSome};
+ghost use Rattle.hm_elements.specs.declared.names.TheConstants.{NAME_COUNT};
 ghost use Rattle.hm_elements.specs.Kinds as kinds;
-ghost use Rattle.hm_elements.specs.KnownNames.{HasName, kind_at, kind_in};
+ghost use Rattle.hm_elements.specs.Numbers.{names, number_of, text_of};
 ghost use Rattle.hm_elements.specs.Tables as tables;
 
 use crate::class::Class;
-use crate::known::{Known, OTHER, UNKNOWN, beginning_with};
+use crate::kinds::KINDS;
 use crate::known_name::KnownName;
-use crate::look_up::same_name;
+use crate::name::Name;
 
 /// What the tables say of a name of an HTML element.
 #[derive(Clone, Copy)]
 pub struct Kind {
+    /// The name's number.
+    pub(crate) number: u8,
     pub class: Class,
     /// One of `h1` to `h6`.
     pub heading: bool,
@@ -40,38 +43,28 @@ pub struct Kind {
     pub bound: bool,
 }
 
+/// The kind with each number.
+fn kinds() -> &'static [Kind]
+    ensures kinds { result.now ≡ map kinds.kind names }
+    ensures many { length result.now ≡ NAME_COUNT }
+{
+    &KINDS
+}
+
+/// What the tables say of the name with this number.
+#[tactic(auto, using(crate::proofs::KindFacts::kind_at))]
+fn kind_at(name: Name) -> &'static Kind
+    ensures { result.now ≡ kinds.kind (text_of name.number) }
+{
+    &kinds()[name.place()]
+}
+
 /// What the tables say of the name.
+#[tactic(auto, using(crate::proofs::KindFacts::kind_named))]
 pub fn kind_of(name: &str) -> Kind
     ensures { result ≡ kinds.kind name.now }
 {
-    match find_known(name) {
-        Some(known) => known.1,
-        None => OTHER,
-    }
-}
-
-/// The name with its kind, if it is known.
-fn find_known(name: &str) -> Option<&'static Known>
-    ensures kind { kind_at result ≡ kinds.kind name.now }
-    ensures name { HasName name.now result }
-{
-    match name.as_bytes().first() {
-        Some(first) => find_among(name, beginning_with(*first)),
-        None => None,
-    }
-}
-
-/// The name with its kind, if one of these is it.
-fn find_among(name: &str, among: &'static [Known]) -> Option<&'static Known>
-    ensures kind { kind_at result ≡ kind_in among.now name.now }
-    ensures name { HasName name.now result }
-{
-    for known in among {
-        if same_name(known.0, name) {
-            return Some(known);
-        }
-    }
-    None
+    *kind_at(Name::of(name))
 }
 
 /// A name of an HTML element, with what the tables say of it: looked up once, and kept.
@@ -79,28 +72,17 @@ fn find_among(name: &str, among: &'static [Known]) -> Option<&'static Known>
 pub struct Named<'n> {
     name: &'n str,
     kind: &'n Kind,
-    text: Option<KnownName>,
     ghost known: { kind.now ≡ kinds.kind name.now },
-    ghost same: { ForSome text (λ t. t.text.now ≡ name.now) },
 }
 
 impl<'n> Named<'n> {
     /// The name, looked up in the tables.
+    #[tactic(auto, using(crate::proofs::KindFacts::kind_named))]
     pub fn of(name: &'n str) -> Named<'n>
         ensures { result.name.now ≡ name.now }
     {
-        match find_known(name) {
-            Some(known) => Named {
-                name,
-                kind: &known.1,
-                text: Some(KnownName::new(known.0)),
-            },
-            None => Named {
-                name,
-                kind: &UNKNOWN,
-                text: None,
-            },
-        }
+        let kind = kind_at(Name::of(name));
+        Named { name, kind }
     }
 
     /// The name with its kind, which is known from an earlier look-up.
@@ -108,11 +90,15 @@ impl<'n> Named<'n> {
         requires { kind.now ≡ kinds.kind name.now }
         ensures { result.name.now ≡ name.now }
     {
-        Named {
-            name,
-            kind,
-            text: None,
-        }
+        Named { name, kind }
+    }
+
+    /// The number of the name.
+    #[tactic(auto, using(crate::proofs::KindFacts::number_in_kind, crate::proofs::Finding::number_below))]
+    pub fn number(self) -> Name
+        ensures { result.number ≡ number_of self.entry.name.now }
+    {
+        Name::with(self.kind.number)
     }
 
     /// The name.
@@ -129,11 +115,16 @@ impl<'n> Named<'n> {
         self.kind
     }
 
-    /// The name as its table holds it, where it was looked up and is known.
+    /// The name as its table holds it, if it is known.
+    #[tactic(auto, using(crate::proofs::KindFacts::text_of_known))]
     pub fn known_name(self) -> Option<KnownName>
         ensures { ForSome result (λ t. t.text.now ≡ self.entry.name.now) }
     {
-        self.text
+        let name = self.number();
+        if name.is_other() {
+            return None;
+        }
+        Some(KnownName::new(name.text()))
     }
 
     /// Whether the HTML element holds nothing and has no end tag (HTML Standard, #elements-2).

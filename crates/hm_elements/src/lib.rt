@@ -1,15 +1,22 @@
 //! The tables of names of elements and attributes, and which trees are settled.
 #![tactic(auto)]
 
+mod asked;
 mod class;
+mod flags;
 mod kind;
-mod known;
+mod kinds;
 mod known_name;
 pub mod laws;
 mod lists;
 mod look_up;
+mod name;
+mod names;
 mod nesting;
 mod omission;
+mod pairs;
+mod rows;
+mod slots;
 
 pub use class::{
     Class, class_of, closes_p, holds_text, is_block, is_boolean, is_boundary, is_heading, is_raw,
@@ -22,6 +29,7 @@ pub use lists::{
     is_section, is_space_parent, says_nothing_blank,
 };
 pub use look_up::{is_one_of, same_name};
+pub use name::Name;
 pub use nesting::{ends_with, is_closed_by_start, may_stand};
 pub use omission::{
     end_tag_optional_before, end_tag_optional_in, start_tag_optional_before,

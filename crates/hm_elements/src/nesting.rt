@@ -1,280 +1,57 @@
 //! Which element may stand in which, and which closes before which tag.
-ghost use Rattle.std.specs.Prelude.{◌≡◌, false, bytes_eq};
-ghost use Rattle.hm_elements.specs.Names as names;
-ghost use Rattle.hm_elements.specs.Names.{p};
+ghost use Rattle.std.specs.Prelude.{◌≡◌, bytes_eq};
+ghost use Rattle.hm_elements.specs.Names.{noscript, div, words, is_among};
 ghost use Rattle.hm_elements.specs.Nesting as nesting;
 ghost use Rattle.hm_elements.specs.Nesting.{is_name};
-ghost use Rattle.hm_elements.specs.Texts.{names_of, text_of};
+ghost use Rattle.hm_elements.specs.Numbers as numbers;
+ghost use Rattle.hm_elements.specs.Rows as rows;
+ghost use Rattle.hm_elements.specs.Rows.{optional_text};
+ghost use Rattle.hm_elements.specs.Texts.{text_of};
 
-use crate::kind::{Named, kind_of};
-use crate::look_up::{PairRow, find, is_in_one_of, is_one_of, is_pair, same_name};
-
-/// The sections of a table.
-const SECTIONS: [&str; 3] = ["thead", "tbody", "tfoot"];
-
-/// The parts of a table.
-const PARTS: [&str; 9] = [
-    "caption", "col", "colgroup", "thead", "tbody", "tfoot", "tr", "td", "th",
-];
-
-/// What an open element yields to, except for `colgroup` and `p`.
-const YIELDS: [PairRow<'static>; 8] = [
-    PairRow {
-        heads: &["li"],
-        names: &[&["li"]],
-    },
-    PairRow {
-        heads: &["dt", "dd"],
-        names: &[&["dt", "dd"]],
-    },
-    PairRow {
-        heads: &["rt", "rp"],
-        names: &[&["rt", "rp"]],
-    },
-    PairRow {
-        heads: &["option"],
-        names: &[&["option", "optgroup"]],
-    },
-    PairRow {
-        heads: &["optgroup"],
-        names: &[&["optgroup"]],
-    },
-    PairRow {
-        heads: &["td", "th", "caption"],
-        names: &[&PARTS],
-    },
-    PairRow {
-        heads: &["tr"],
-        names: &[&[
-            "caption", "col", "colgroup", "thead", "tbody", "tfoot", "tr",
-        ]],
-    },
-    PairRow {
-        heads: &["thead", "tbody", "tfoot"],
-        names: &[&["caption", "col", "colgroup", "thead", "tbody", "tfoot"]],
-    },
-];
+use crate::flags::{DESCRIPTION, DIV, NOSCRIPT, NOSCRIPT_CHILD};
+use crate::kind::Named;
+use crate::look_up::same_name;
+use crate::name::Name;
+use crate::pairs;
 
 /// Whether the open element `current` closes before the start tag of an HTML element `next` (#optional-tags,
 /// #closing-elements-that-have-implied-end-tags, #parsing-main-inbody and following).
-#[tactic(auto, using(crate::proofs::NestingFacts::never_yields), unfolding(crate::specs::Nesting::is_closed_by_start))]
+#[tactic(auto, using(crate::proofs::Told::yields_named))]
 pub fn is_closed_by_start(current: Named<'_>, next: Named<'_>) -> bool
     ensures { result ≡ nesting.is_closed_by_start current.entry.name.now next.entry.name.now }
 {
-    if !current.kind().is_closed_by_start {
-        false
-    } else if same_name(current.name(), "colgroup") {
-        !same_name(next.name(), "col")
-    } else if same_name("p", current.name()) {
-        next.kind().closes_open_p
-    } else {
-        yields_by_rows(current.name(), next.name())
-    }
+    current.number().is_closed_by_start(next.number())
 }
-
-#[tactic(auto, unfolding(crate::specs::Nesting::yield_rows, crate::specs::Tables::parts, crate::specs::Names::is_among))]
-fn yields_by_rows(current: &str, next: &str) -> bool
-    requires { bytes_eq p current.now ≡ false }
-    ensures { result ≡ names.is_pair nesting.yield_rows current.now next.now }
-{
-    is_pair(&YIELDS, current, next)
-}
-
-/// What end tags an open element ends with, except for `p`.
-const ENDS: [PairRow<'static>; 8] = [
-    PairRow {
-        heads: &["li"],
-        names: &[&["ul", "ol", "menu", "dir"]],
-    },
-    PairRow {
-        heads: &["dt", "dd"],
-        names: &[&["dl", "div"]],
-    },
-    PairRow {
-        heads: &["option"],
-        names: &[&["optgroup", "select", "datalist"]],
-    },
-    PairRow {
-        heads: &["optgroup"],
-        names: &[&["select"]],
-    },
-    PairRow {
-        heads: &["rt", "rp"],
-        names: &[&["ruby"]],
-    },
-    PairRow {
-        heads: &["td", "th"],
-        names: &[&["tr", "table"], &SECTIONS],
-    },
-    PairRow {
-        heads: &["tr"],
-        names: &[&["table"], &SECTIONS],
-    },
-    PairRow {
-        heads: &["thead", "tbody", "tfoot", "caption", "colgroup"],
-        names: &[&["table"]],
-    },
-];
 
 /// Whether the open element `child` ends with the end tag `ending` (#optional-tags,
 /// #closing-elements-that-have-implied-end-tags).
-#[tactic(auto, using(crate::proofs::NestingFacts::never_ends))]
+#[tactic(auto, using(crate::proofs::Told::ends_named))]
 pub fn ends_with(child: Named<'_>, ending: &str) -> bool
     ensures { result ≡ nesting.ends_with child.entry.name.now ending.now }
 {
-    if !child.kind().ends {
-        false
-    } else if same_name("p", child.name()) {
-        kind_of(ending).p_ends
-    } else {
-        ends_by_rows(child.name(), ending)
-    }
+    child.number().ends_with(Name::of(ending))
 }
-
-#[tactic(auto, unfolding(crate::specs::Nesting::ends_with, crate::specs::Nesting::end_rows, crate::specs::Tables::sections, crate::specs::Names::is_among))]
-fn ends_by_rows(child: &str, ending: &str) -> bool
-    requires { bytes_eq p child.now ≡ false }
-    ensures { result ≡ nesting.ends_with child.now ending.now }
-{
-    is_pair(&ENDS, child, ending)
-}
-
-/// Parents with children of their own.
-const CHILDREN: [PairRow<'static>; 8] = [
-    PairRow {
-        heads: &["head"],
-        names: &[&[
-            "base", "link", "meta", "noscript", "script", "style", "title",
-        ]],
-    },
-    PairRow {
-        heads: &["table"],
-        names: &[&[
-            "caption", "colgroup", "thead", "tbody", "tfoot", "script", "style",
-        ]],
-    },
-    PairRow {
-        heads: &["thead", "tbody", "tfoot"],
-        names: &[&["tr", "script", "style"]],
-    },
-    PairRow {
-        heads: &["tr"],
-        names: &[&["td", "th", "script", "style"]],
-    },
-    PairRow {
-        heads: &["colgroup"],
-        names: &[&["col"]],
-    },
-    PairRow {
-        heads: &["select"],
-        names: &[&["option", "optgroup"]],
-    },
-    PairRow {
-        heads: &["optgroup"],
-        names: &[&["option"]],
-    },
-    PairRow {
-        heads: &[
-            "option", "script", "title", "textarea", "style", "iframe", "area", "base", "br",
-            "col", "embed", "hr", "img", "input", "link", "meta", "param", "source", "track",
-            "wbr",
-        ],
-        names: &[],
-    },
-];
-
-/// Children with parents of their own.
-const PARENTS: [PairRow<'static>; 5] = [
-    PairRow {
-        heads: &["li"],
-        names: &[&["ul", "ol", "menu", "dir"]],
-    },
-    PairRow {
-        heads: &["dt", "dd"],
-        names: &[&["dl"]],
-    },
-    PairRow {
-        heads: &["rt", "rp"],
-        names: &[&["ruby"]],
-    },
-    PairRow {
-        heads: &["option"],
-        names: &[&["datalist"]],
-    },
-    PairRow {
-        heads: &["optgroup"],
-        names: &[],
-    },
-];
 
 /// Whether an HTML element `name` may stand under the element `parent`, which itself stands under `grandparent` or at the top
 /// (#element-restrictions, #parsing-main-inselect).
 #[inline(always)]
-#[tactic(auto, unfolding(crate::specs::Nesting::may_stand, crate::specs::Nesting::noscript_children))]
+#[tactic(auto, using(crate::proofs::Told::may_stand_named))]
 pub fn may_stand(name: Named<'_>, parent: Named<'_>, grandparent: Option<&str>) -> bool
     ensures { result ≡ nesting.may_stand name.entry.name.now parent.entry.name.now (text_of grandparent.entry) }
 {
-    if same_name(parent.name(), "noscript") && is_named(grandparent, "head") {
-        return is_one_of(name.name(), &["link", "meta", "style"]);
-    }
-    match own_children(parent) {
-        Some(children) => is_in_one_of(name.name(), children),
-        None => stands_by_parents(name, parent.name(), grandparent),
-    }
+    stands_under(name.number(), parent.number(), grandparent)
 }
 
-/// The names of the children that the element takes, where it takes only those.
+/// Whether an element may stand under a parent that itself stands under `grandparent` or at the top.
 #[inline(always)]
-fn own_children(parent: Named<'_>) -> Option<&'static [&'static [&'static str]]>
-    ensures { names_of result ≡ names.find parent.entry.name.now nesting.children }
+#[tactic(auto, using(crate::proofs::Told::may_stand_by))]
+fn stands_under(name: Name, parent: Name, grandparent: Option<&str>) -> bool
+    ensures { result ≡ nesting.may_stand (numbers.text_of name.number) (numbers.text_of parent.number) (text_of grandparent.entry) }
 {
-    if parent.kind().has_children {
-        children_by_rows(parent.name())
-    } else {
-        None
+    if parent.is_noscript() && is_named(grandparent, "head") {
+        return name.is_noscript_child();
     }
-}
-
-#[tactic(auto, unfolding(crate::specs::Nesting::children, crate::specs::Tables::rcdata_names, crate::specs::Tables::raw_names, crate::specs::Tables::voids, crate::specs::Names::is_among))]
-fn children_by_rows(parent: &str) -> Option<&'static [&'static [&'static str]]>
-    ensures { names_of result ≡ names.find parent.now nesting.children }
-{
-    find(&CHILDREN, parent)
-}
-
-/// The names of the parents that the element stands in, where it stands only in those.
-#[inline(always)]
-fn own_parents(child: Named<'_>) -> Option<&'static [&'static [&'static str]]>
-    ensures { names_of result ≡ names.find child.entry.name.now nesting.own_parents }
-{
-    if child.kind().has_parents {
-        parents_by_rows(child.name())
-    } else {
-        None
-    }
-}
-
-#[tactic(auto, unfolding(crate::specs::Nesting::own_parents, crate::specs::Names::is_among))]
-fn parents_by_rows(child: &str) -> Option<&'static [&'static [&'static str]]>
-    ensures { names_of result ≡ names.find child.now nesting.own_parents }
-{
-    find(&PARENTS, child)
-}
-
-/// The rule for a parent without children of its own.
-#[inline(always)]
-fn stands_by_parents(name: Named<'_>, parent: &str, grandparent: Option<&str>) -> bool
-    ensures { result ≡ nesting.stands_by_parents (names.find name.entry.name.now nesting.own_parents) name.entry.name.now parent.now (text_of grandparent.entry) }
-{
-    match own_parents(name) {
-        Some(parents) => {
-            is_in_one_of(parent, parents)
-                || (is_one_of(name.name(), &["dt", "dd"])
-                    && same_name(parent, "div")
-                    && is_named(grandparent, "dl"))
-        }
-        None => !name.kind().bound,
-    }
+    parent.takes(name) || (parent.is_div() && is_named(grandparent, "dl") && name.is_description())
 }
 
 fn is_named(name: Option<&str>, wanted: &str) -> bool
@@ -283,5 +60,55 @@ fn is_named(name: Option<&str>, wanted: &str) -> bool
     match name {
         Some(name) => same_name(name, wanted),
         None => false,
+    }
+}
+
+impl Name {
+    /// Whether this HTML element may stand under the element `parent`, which itself stands under `grandparent` or at the top.
+    pub fn may_stand(self, parent: Name, grandparent: Option<Name>) -> bool
+        ensures { result ≡ nesting.may_stand (numbers.text_of self.number) (numbers.text_of parent.number) (optional_text grandparent) }
+    {
+        match grandparent {
+            Some(grandparent) => stands_under(self, parent, Some(grandparent.text())),
+            None => stands_under(self, parent, None),
+        }
+    }
+
+    /// Whether a child of this name stands in the element, if what is around the element says nothing more.
+    #[tactic(auto, using(crate::proofs::Told::stands_told))]
+    fn takes(self, child: Name) -> bool
+        ensures { result ≡ rows.stands_in (numbers.text_of self.number) (numbers.text_of child.number) }
+    {
+        pairs::parents().says(self, child)
+    }
+
+    #[tactic(auto, using(crate::proofs::Told::is_noscript))]
+    fn is_noscript(self) -> bool
+        ensures { result ≡ bytes_eq (numbers.text_of self.number) noscript }
+    {
+        self.is_listed(NOSCRIPT)
+    }
+
+    /// Whether the element may stand in a `noscript` of `head`.
+    #[tactic(auto, unfolding(crate::specs::Rows::listed_at, crate::specs::Rows::flags))]
+    fn is_noscript_child(self) -> bool
+        ensures { result ≡ is_among (numbers.text_of self.number) nesting.noscript_children }
+    {
+        self.is_listed(NOSCRIPT_CHILD)
+    }
+
+    #[tactic(auto, using(crate::proofs::Told::is_div))]
+    fn is_div(self) -> bool
+        ensures { result ≡ bytes_eq (numbers.text_of self.number) div }
+    {
+        self.is_listed(DIV)
+    }
+
+    /// Whether it is `dt` or `dd`.
+    #[tactic(auto, unfolding(crate::specs::Rows::listed_at, crate::specs::Rows::flags))]
+    fn is_description(self) -> bool
+        ensures { result ≡ is_among (numbers.text_of self.number) (words "dt dd") }
+    {
+        self.is_listed(DESCRIPTION)
     }
 }

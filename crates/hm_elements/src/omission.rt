@@ -1,86 +1,27 @@
 //! Which tags may be left out, by the names of elements (HTML Standard, #optional-tags).
-ghost use Rattle.std.specs.Prelude.{◌≡◌, ◌&&◌, not};
+ghost use Rattle.std.specs.Prelude.{◌≡◌};
 ghost use Rattle.hm_elements.specs.Names.{is_among};
 ghost use Rattle.hm_elements.specs.Omission as omission;
-ghost use Rattle.hm_elements.specs.Tables as tables;
 
-use crate::kind::{Kind, kind_of};
-use crate::lists::{is_cell, is_section};
+use crate::flags::{HEAD_TAKER, is_listed};
+use crate::lists::is_section;
 use crate::look_up::{is_one_of, same_name};
-
-/// Whether the end tag of a paragraph may be left out before the start tag of the HTML element: blocks are what closes a
-/// paragraph, except for the items of lists.
-fn end_tag_of_p_optional_before(next: &str) -> bool
-    ensures { result ≡ is_among next.now tables.blocks }
-{
-    let kind = kind_of(next);
-    kind.closes_p && !kind.has_parents
-}
+use crate::name::Name;
 
 /// Whether the end tag of the HTML element may be left out before the start tag of the HTML element `next`.
-#[tactic(auto, unfolding(crate::specs::Omission::end_tag_optional_before, crate::specs::Omission::before_rows, crate::specs::Names::is_among, crate::specs::Tables::is_section, crate::specs::Tables::sections))]
+#[tactic(auto, using(crate::proofs::Told::before_named))]
 pub fn end_tag_optional_before(name: &str, next: &str) -> bool
     ensures { result ≡ omission.end_tag_optional_before name.now next.now }
 {
-    if is_cell(name) {
-        is_cell(next)
-    } else if same_name(name, "colgroup") {
-        true
-    } else if is_one_of(name, &["caption"]) {
-        is_one_of(next, &["colgroup"]) || is_section(next)
-    } else if is_one_of(name, &["thead", "tbody"]) {
-        is_one_of(next, &["tbody", "tfoot"])
-    } else if is_one_of(name, &["tr"]) {
-        is_one_of(next, &["tr"])
-    } else if is_one_of(name, &["li"]) {
-        is_one_of(next, &["li"])
-    } else if is_one_of(name, &["dt", "dd"]) {
-        is_one_of(next, &["dt", "dd"])
-    } else if is_one_of(name, &["rt", "rp"]) {
-        is_one_of(next, &["rt", "rp"])
-    } else if is_one_of(name, &["optgroup"]) {
-        is_one_of(next, &["optgroup"])
-    } else if is_one_of(name, &["option"]) {
-        is_one_of(next, &["option", "optgroup"])
-    } else if is_one_of(name, &["p"]) {
-        end_tag_of_p_optional_before(next)
-    } else {
-        false
-    }
+    Name::of(name).end_tag_optional_before(Name::of(next))
 }
 
 /// Whether the end tag of the HTML element may be left out at the end of this parent.
-#[tactic(auto, unfolding(crate::specs::Omission::end_tag_optional_in, crate::specs::Omission::up_names, crate::specs::Names::is_among))]
+#[tactic(auto, using(crate::proofs::Told::inside_named))]
 pub fn end_tag_optional_in(name: &str, parent: &str) -> bool
     ensures { result ≡ omission.end_tag_optional_in name.now parent.now }
 {
-    if same_name(name, "p") {
-        is_parent_of_loose_p(parent)
-    } else if same_name(name, "option") {
-        !same_name(parent, "datalist")
-    } else {
-        is_one_of(
-            name,
-            &[
-                "caption", "colgroup", "tbody", "tfoot", "tr", "td", "th", "li", "dd", "rt", "rp",
-                "optgroup",
-            ],
-        )
-    }
-}
-
-/// Whether the end tag of a paragraph may be left out at the end of this parent.
-fn is_parent_of_loose_p(parent: &str) -> bool
-    ensures { result ≡ is_among parent.now omission.up_of_p }
-{
-    same_name("body", parent) || ends_loose_p(kind_of(parent))
-}
-
-/// Whether a paragraph ends with the end tags of such elements, and any child may stand in them.
-fn ends_loose_p(parent: Kind) -> bool
-    ensures { result ≡ parent.p_ends && not parent.has_children }
-{
-    parent.p_ends && !parent.has_children
+    Name::of(name).end_tag_optional_in(Name::of(parent))
 }
 
 /// Whether the start tag of the HTML element may be left out before the start tag of this child.
@@ -107,8 +48,9 @@ pub fn start_tag_required_after(before: &str, name: &str) -> bool
 }
 
 /// Whether the HTML element is taken into `head` where no start tag of `body` stands before it.
+#[tactic(auto, unfolding(crate::specs::Rows::listed_at, crate::specs::Rows::flags))]
 pub fn stays_in_head(name: &str) -> bool
     ensures { result ≡ is_among name.now omission.head_takers }
 {
-    is_one_of(name, &["link", "meta", "noscript", "script", "style"])
+    is_listed(name, HEAD_TAKER)
 }

@@ -73,7 +73,7 @@ module _ (g : Spelling) (table : IsTable g.table) (es : Edges) (has : HasTagEdge
     right : List ℕ
     whole : b ≡ left ++ right
     writes : (x : List ℕ) → (form ≡ unquoted → Closes x) → WritesAttribute (SpellsValue g) g.rules.tight before form a left x
-    following : WayTo es (attribute_units attributes) (state (after_form form) nothing) right to
+    after : WayTo es (attribute_units attributes) (state (after_form form) nothing) right to
 
   abbrev bare_edge : List ℕ → Where → Edge
   bare_edge n at = edge (gap_at g.rules.tight at ++ (n ++ codes "=")) in_unquoted nothing

@@ -159,5 +159,5 @@ reference_is t k spot points piece after r = by_rest (r.inner ++ after) refl
         by_hash (35 == c) refl cut found
       where
         by_hash : (b : Bool) → (35 == c) ≡ b → piece ++ after ≡ 38 ∷ c ∷ w → reference_after t (is_value spot) (38 ∷ []) (c ∷ w) ≡ Some (record { points = points; len = length piece }) → IsName t spot points piece after ⊎ IsNumber points piece after
-        by_hash false h cut f = inl (name_of t spot points piece rest_after (c ∷ w) cut (sym (read_after t (is_value spot) c w h) ∙ f))
+        by_hash false h cut f = inl (name_of t spot points piece after (c ∷ w) cut (sym (read_after t (is_value spot) c w h) ∙ f))
         by_hash true h cut f = inr (record { inner = w; cut = subst (λ d. piece ++ after ≡ 38 ∷ d ∷ w) (sym (eq_of 35 c h)) cut; read = sym (read_hash t (is_value spot) c w h) ∙ f })

@@ -236,6 +236,7 @@ def write_slots(tables):
     yield ""
     yield "/// What the hash multiplies the length by, and the first byte, and those at a third, at half and at the end of the name."
     for name, factor in zip(["BY_LENGTH", "BY_FIRST", "BY_THIRD", "BY_HALF", "BY_LAST"], factors):
+        yield from [""] * (name != "BY_LENGTH")
         yield "pub(crate) const %s: usize = %d;" % (name, factor)
     yield from array("SLOTS", "u8", str(SLOTS), "The number of the name with this hash; 0 if there is none.", map(str, values))
 

@@ -64,6 +64,10 @@ pub(crate) const DIV: u8 = 23;
 
 pub(crate) const DESCRIPTION: u8 = 24;
 
+pub(crate) const PARAGRAPH_BLOCK: u8 = 25;
+
+pub(crate) const PARAGRAPH_PARENT: u8 = 26;
+
 /// The flags of each number.
 fn flags() -> &'static [u32]
     ensures flags { result.now ≡ FLAGS }

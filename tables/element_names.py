@@ -234,10 +234,11 @@ def write_slots(tables):
     factors, values = slots(tables.names)
     yield "//! Which number a name may have, by a hash of some of its bytes. Written by `tables/element_names.py`."
     yield ""
-    yield "/// What the hash multiplies the length by, and the first byte, and those at a third, at half and at the end of the name."
-    for name, factor in zip(["BY_LENGTH", "BY_FIRST", "BY_THIRD", "BY_HALF", "BY_LAST"], factors):
-        yield from [""] * (name != "BY_LENGTH")
-        yield "pub(crate) const %s: usize = %d;" % (name, factor)
+    for name, what, factor in zip(["LENGTH", "FIRST", "THIRD", "HALF", "LAST"], ["length", "first byte", "byte at a third", "byte at half", "last byte"], factors):
+        yield "/// What the hash multiplies a name's %s by." % what
+        yield "pub(crate) const BY_%s: usize = %d;" % (name, factor)
+        if name != "LAST":
+            yield ""
     yield from array("SLOTS", "u8", str(SLOTS), "The number of the name with this hash; 0 if there is none.", map(str, values))
 
 

@@ -9,6 +9,7 @@ use Rattle.hm_elements.specs.declared.rows.TheConstants.{FLAGS, FLAG_COUNT}
 use Rattle.hm_elements.specs.Names.{is_among}
 use Rattle.hm_elements.specs.Nesting.{noscript_children}
 use Rattle.hm_elements.specs.Numbers.{names, number_of, text_of}
+use Rattle.hm_elements.specs.Omission.{up_of_p}
 use Rattle.hm_elements.specs.Paths.{blank_parents}
 use Rattle.hm_elements.specs.Rows.{flags, listed_at, bit_at, flags_at}
 use Rattle.hm_elements.specs.Tables.{roots, voids, rcdata_names, raw_names, refused_names, headings, sections, unnested_names, blocks, paragraph_ends, boundaries, svg_boundaries, block_names, svg_names, space_parents, boolean_attributes}
@@ -18,7 +19,7 @@ use Rattle.hm_elements.proofs.TableTools.{none_among}
 
 -- each list, name by name
 all_flags : map (λ ms. map (λ n. is_among n ms) names) flags ≡ map (λ b. map (λ f. bit_at f b) FLAGS) (range_with_len 0 FLAG_COUNT)
-unfolding names flags bit_at is_among roots voids rcdata_names raw_names refused_names headings sections unnested_names blocks paragraph_ends boundaries svg_boundaries block_names svg_names blank_parents space_parents boolean_attributes noscript_children
+unfolding names flags bit_at is_among roots voids rcdata_names raw_names refused_names headings sections unnested_names blocks paragraph_ends boundaries svg_boundaries block_names svg_names up_of_p blank_parents space_parents boolean_attributes noscript_children
 all_flags = refl
 
 flags_many : length FLAGS ≡ NAME_COUNT
@@ -39,7 +40,7 @@ abbrev is_of_names : List (List ℕ) → Bool
 is_of_names ms = list_all (λ m. is_among m names) ms && not (is_among [] ms)
 
 flags_named : list_all is_of_names flags ≡ true
-unfolding names flags is_among roots voids rcdata_names raw_names refused_names headings sections unnested_names blocks paragraph_ends boundaries svg_boundaries block_names svg_names blank_parents space_parents boolean_attributes noscript_children
+unfolding names flags is_among roots voids rcdata_names raw_names refused_names headings sections unnested_names blocks paragraph_ends boundaries svg_boundaries block_names svg_names up_of_p blank_parents space_parents boolean_attributes noscript_children
 flags_named = refl
 
 none_named : is_of_names [] ≡ true

@@ -40,37 +40,35 @@ no_pair rows n m e all = false_from_ne_true (is_pair rows n m) (λ h. both_ways 
 no_empty : (rows : List PairRow) (n : List ℕ) → next_named rows ≡ true → is_pair rows n [] ≡ false
 no_empty rows n all = false_from_ne_true (is_pair rows n []) (λ h. both_ways false refl (and_parts (is_among [] names) (not (bytes_eq [] [])) (pair_passes (λ a b. is_among b names && not (bytes_eq [] b)) n [] rows all h)).1)
 
-same_pair : (rows : List PairRow) (n m : List ℕ) → is_among m names ≡ false → next_named rows ≡ true → is_pair rows n [] ≡ is_pair rows n m
-same_pair rows n m e all = no_empty rows n all ∙ sym (no_pair rows n m e all)
-
-alike : (b p' q r s : Bool) → p' ≡ q → r ≡ s → cond b p' r ≡ cond b q s
-alike b p' q r s e f = rw (e, f) refl
-
 colgroup_named : is_among colgroup names ≡ true
 unfolding names is_among
 colgroup_named = refl
-
-no_colgroup : (n : List ℕ) → is_among n names ≡ false → bytes_eq n colgroup ≡ false
-no_colgroup n e = not_among n colgroup names e colgroup_named
 
 col_named : is_among col names ≡ true
 unfolding names is_among
 col_named = refl
 
-no_col : (n : List ℕ) → is_among n names ≡ false → bytes_eq n col ≡ false
-no_col n e = not_among n col names e col_named
+-- ---- Tables of rows, and what colgroup is asked in place of a row
+
+abbrev with_colgroup : List PairRow → (List ℕ → Bool) → List ℕ → List ℕ → Bool
+with_colgroup rows own a n = if bytes_eq a colgroup then own n else is_pair rows a n
+
+abbrev colgroup_row : List PairRow → List ℕ → Bool × Option (List (List ℕ))
+colgroup_row rows a = (bytes_eq a colgroup, find a rows)
+
+asked_by_row : (rows : List PairRow) (own : List ℕ → Bool) (a b n : List ℕ) → colgroup_row rows a ≡ colgroup_row rows b → with_colgroup rows own a n ≡ with_colgroup rows own b n
+asked_by_row rows own a b n e =
+    let c : bytes_eq a colgroup ≡ bytes_eq b colgroup = ap (λ x. x.0) e in
+    let f : find a rows ≡ find b rows = ap (λ x. x.1) e in
+    rw (c, f) refl
+
+other_row : (rows : List PairRow) (a : List ℕ) → heads_named rows ≡ true → find [] rows ≡ None → is_among a names ≡ false → colgroup_row rows [] ≡ colgroup_row rows a
+other_row rows a all none e = rw (none, not_among a colgroup names e colgroup_named, no_row a rows e all) refl
+
+other_next : (rows : List PairRow) (own : List ℕ → Bool) (a n : List ℕ) → next_named rows ≡ true → is_among n names ≡ false → own [] ≡ own n → with_colgroup rows own a [] ≡ with_colgroup rows own a n
+other_next rows own a n all e same = rw (same, no_empty rows a all, no_pair rows a n e all) refl
 
 -- ---- What closes before a start tag
-
-abbrev yield_row : List ℕ → Bool × Option (List (List ℕ))
-yield_row a = (bytes_eq a colgroup, find a closed_by_start_rows)
-
-yields_by_row : (a b n : List ℕ) → yield_row a ≡ yield_row b → is_closed_by_start a n ≡ is_closed_by_start b n
-unfolding is_closed_by_start
-yields_by_row a b n e =
-    let c : bytes_eq a colgroup ≡ bytes_eq b colgroup = ap (λ x. x.0) e in
-    let f : find a closed_by_start_rows ≡ find b closed_by_start_rows = ap (λ x. x.1) e in
-    rw (c, f) refl
 
 yield_heads : heads_named closed_by_start_rows ≡ true
 unfolding closed_by_start_rows names is_among
@@ -80,70 +78,17 @@ yield_nexts : next_named closed_by_start_rows ≡ true
 unfolding closed_by_start_rows paragraph_ends blocks headings parts names is_among
 yield_nexts = refl
 
-other_yield_row : (a : List ℕ) → is_among a names ≡ false → yield_row [] ≡ yield_row a
-unfolding closed_by_start_rows is_among
-other_yield_row a e = rw (no_colgroup a e, no_row a closed_by_start_rows e yield_heads) refl
-
-yields_to_other : (a n : List ℕ) → is_among n names ≡ false → is_closed_by_start a [] ≡ is_closed_by_start a n
-unfolding is_closed_by_start
-yields_to_other a n e = alike (bytes_eq a colgroup) (not (bytes_eq [] col)) (not (bytes_eq n col)) (is_pair closed_by_start_rows a []) (is_pair closed_by_start_rows a n) (ap not (sym (no_col n e))) (same_pair closed_by_start_rows a n e yield_nexts)
-
-yield_table : IsTable (Bool × Option (List (List ℕ))) yield_row is_closed_by_start 11 CLOSED_CLASSES CLOSED_MASKS
+yield_table : IsTable (Bool × Option (List (List ℕ))) (colgroup_row closed_by_start_rows) is_closed_by_start 11 CLOSED_CLASSES CLOSED_MASKS
 unfolding names first text_of is_closed_by_start closed_by_start_rows parts headings blocks paragraph_ends is_among bit_at
-yield_table = record { by_row = yields_by_row; other_row = other_yield_row; other_next = yields_to_other; same_rows = refl; bits = refl; below = refl; some = lit< tt; classes_many = refl; masks_many = refl }
+yield_table = record { by_row = asked_by_row closed_by_start_rows (λ n. not (bytes_eq n col)); other_row = λ a e. other_row closed_by_start_rows a yield_heads refl e; other_next = λ a n e. other_next closed_by_start_rows (λ m. not (bytes_eq m col)) a n yield_nexts e (ap not (sym (not_among n col names e col_named))); same_rows = refl; bits = refl; below = refl; some = lit< tt; classes_many = refl; masks_many = refl }
 
 pub yields_told : (cs ms : List ℕ) (i j : ℕ) → cs ≡ CLOSED_CLASSES → ms ≡ CLOSED_MASKS → i < NAME_COUNT → j < NAME_COUNT → is_told cs ms i j ≡ is_closed_by_start (text_of i) (text_of j)
-yields_told = told yield_row is_closed_by_start 11 CLOSED_CLASSES CLOSED_MASKS yield_table
+yields_told = told (colgroup_row closed_by_start_rows) is_closed_by_start 11 CLOSED_CLASSES CLOSED_MASKS yield_table
 
 pub yields_named : (a b : List ℕ) → is_closed_by_start (text_of (number_of a)) (text_of (number_of b)) ≡ is_closed_by_start a b
-yields_named = pair_named yield_row is_closed_by_start 11 CLOSED_CLASSES CLOSED_MASKS yield_table
-
--- ---- What ends with an end tag
-
-abbrev end_row : List ℕ → Option (List (List ℕ))
-end_row a = find a end_rows
-
-ends_by_row : (a b n : List ℕ) → end_row a ≡ end_row b → is_ended_by a n ≡ is_ended_by b n
-unfolding is_ended_by
-ends_by_row a b n e = rw e refl
-
-end_heads : heads_named end_rows ≡ true
-unfolding end_rows names is_among
-end_heads = refl
-
-end_nexts : next_named end_rows ≡ true
-unfolding end_rows sections blocks headings names is_among
-end_nexts = refl
-
-other_end_row : (a : List ℕ) → is_among a names ≡ false → end_row [] ≡ end_row a
-unfolding end_rows is_among
-other_end_row a e = rw (no_row a end_rows e end_heads) refl
-
-ends_with_other : (a n : List ℕ) → is_among n names ≡ false → is_ended_by a [] ≡ is_ended_by a n
-unfolding is_ended_by
-ends_with_other a n e = same_pair end_rows a n e end_nexts
-
-end_table : IsTable (Option (List (List ℕ))) end_row is_ended_by 10 END_CLASSES END_MASKS
-unfolding names first text_of is_ended_by end_rows sections headings blocks is_among bit_at
-end_table = record { by_row = ends_by_row; other_row = other_end_row; other_next = ends_with_other; same_rows = refl; bits = refl; below = refl; some = lit< tt; classes_many = refl; masks_many = refl }
-
-pub ends_told : (cs ms : List ℕ) (i j : ℕ) → cs ≡ END_CLASSES → ms ≡ END_MASKS → i < NAME_COUNT → j < NAME_COUNT → is_told cs ms i j ≡ is_ended_by (text_of i) (text_of j)
-ends_told = told end_row is_ended_by 10 END_CLASSES END_MASKS end_table
-
-pub ends_named : (a b : List ℕ) → is_ended_by (text_of (number_of a)) (text_of (number_of b)) ≡ is_ended_by a b
-ends_named = pair_named end_row is_ended_by 10 END_CLASSES END_MASKS end_table
+yields_named = pair_named (colgroup_row closed_by_start_rows) is_closed_by_start 11 CLOSED_CLASSES CLOSED_MASKS yield_table
 
 -- ---- Before which start tags an end tag may be left out
-
-abbrev before_row : List ℕ → Bool × Option (List (List ℕ))
-before_row a = (bytes_eq a colgroup, find a before_rows)
-
-before_by_row : (a b n : List ℕ) → before_row a ≡ before_row b → end_tag_optional_before a n ≡ end_tag_optional_before b n
-unfolding end_tag_optional_before
-before_by_row a b n e =
-    let c : bytes_eq a colgroup ≡ bytes_eq b colgroup = ap (λ x. x.0) e in
-    let f : find a before_rows ≡ find b before_rows = ap (λ x. x.1) e in
-    rw (c, f) refl
 
 before_heads : heads_named before_rows ≡ true
 unfolding before_rows names is_among
@@ -153,23 +98,38 @@ before_nexts : next_named before_rows ≡ true
 unfolding before_rows sections blocks headings names is_among
 before_nexts = refl
 
-other_before_row : (a : List ℕ) → is_among a names ≡ false → before_row [] ≡ before_row a
-unfolding before_rows is_among
-other_before_row a e = rw (no_colgroup a e, no_row a before_rows e before_heads) refl
-
-before_other : (a n : List ℕ) → is_among n names ≡ false → end_tag_optional_before a [] ≡ end_tag_optional_before a n
-unfolding end_tag_optional_before
-before_other a n e = alike (bytes_eq a colgroup) true true (is_pair before_rows a []) (is_pair before_rows a n) refl (same_pair before_rows a n e before_nexts)
-
-before_table : IsTable (Bool × Option (List (List ℕ))) before_row end_tag_optional_before 12 BEFORE_CLASSES BEFORE_MASKS
+before_table : IsTable (Bool × Option (List (List ℕ))) (colgroup_row before_rows) end_tag_optional_before 12 BEFORE_CLASSES BEFORE_MASKS
 unfolding names first text_of end_tag_optional_before before_rows sections headings blocks is_among bit_at
-before_table = record { by_row = before_by_row; other_row = other_before_row; other_next = before_other; same_rows = refl; bits = refl; below = refl; some = lit< tt; classes_many = refl; masks_many = refl }
+before_table = record { by_row = asked_by_row before_rows (λ n. true); other_row = λ a e. other_row before_rows a before_heads refl e; other_next = λ a n e. other_next before_rows (λ m. true) a n before_nexts e refl; same_rows = refl; bits = refl; below = refl; some = lit< tt; classes_many = refl; masks_many = refl }
 
 pub before_told : (cs ms : List ℕ) (i j : ℕ) → cs ≡ BEFORE_CLASSES → ms ≡ BEFORE_MASKS → i < NAME_COUNT → j < NAME_COUNT → is_told cs ms i j ≡ end_tag_optional_before (text_of i) (text_of j)
-before_told = told before_row end_tag_optional_before 12 BEFORE_CLASSES BEFORE_MASKS before_table
+before_told = told (colgroup_row before_rows) end_tag_optional_before 12 BEFORE_CLASSES BEFORE_MASKS before_table
 
 pub before_named : (a b : List ℕ) → end_tag_optional_before (text_of (number_of a)) (text_of (number_of b)) ≡ end_tag_optional_before a b
-before_named = pair_named before_row end_tag_optional_before 12 BEFORE_CLASSES BEFORE_MASKS before_table
+before_named = pair_named (colgroup_row before_rows) end_tag_optional_before 12 BEFORE_CLASSES BEFORE_MASKS before_table
+
+-- ---- What ends with an end tag
+
+abbrev end_row : List ℕ → Option (List (List ℕ))
+end_row a = find a end_rows
+
+end_heads : heads_named end_rows ≡ true
+unfolding end_rows names is_among
+end_heads = refl
+
+end_nexts : next_named end_rows ≡ true
+unfolding end_rows sections blocks headings names is_among
+end_nexts = refl
+
+end_table : IsTable (Option (List (List ℕ))) end_row is_ended_by 10 END_CLASSES END_MASKS
+unfolding names first text_of is_ended_by end_rows sections headings blocks is_among bit_at
+end_table = record { by_row = λ a b n e. ap (is_among_found n) e; other_row = λ a e. sym (no_row a end_rows e end_heads); other_next = λ a n e. no_empty end_rows a end_nexts ∙ sym (no_pair end_rows a n e end_nexts); same_rows = refl; bits = refl; below = refl; some = lit< tt; classes_many = refl; masks_many = refl }
+
+pub ends_told : (cs ms : List ℕ) (i j : ℕ) → cs ≡ END_CLASSES → ms ≡ END_MASKS → i < NAME_COUNT → j < NAME_COUNT → is_told cs ms i j ≡ is_ended_by (text_of i) (text_of j)
+ends_told = told end_row is_ended_by 10 END_CLASSES END_MASKS end_table
+
+pub ends_named : (a b : List ℕ) → is_ended_by (text_of (number_of a)) (text_of (number_of b)) ≡ is_ended_by a b
+ends_named = pair_named end_row is_ended_by 10 END_CLASSES END_MASKS end_table
 
 -- ---- At the end of which parents an end tag may be left out
 
@@ -305,7 +265,7 @@ unbound_empty = refl
 
 stands_other : (a n : List ℕ) → is_among n names ≡ false → stands_in a [] ≡ stands_in a n
 unfolding stands_in
-stands_other a n e = by (find a children) (same_pair children a n e child_nexts)
+stands_other a n e = by (find a children) (no_empty children a child_nexts ∙ sym (no_pair children a n e child_nexts))
   where
     by : (o : Option (List (List ℕ))) → is_among_found [] o ≡ is_among_found n o → stands_by_children o [] a None ≡ stands_by_children o n a None
     by (Some ns) h = h

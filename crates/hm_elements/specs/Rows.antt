@@ -6,9 +6,9 @@ use Rattle.hm_elements.specs.Attributes.{nothing_blank}
 use Rattle.hm_elements.specs.Names.{words, find, script, noscript, div}
 use Rattle.hm_elements.specs.Nesting.{children, stands_by_children, noscript_children}
 use Rattle.hm_elements.specs.Numbers.{text_of}
-use Rattle.hm_elements.specs.Omission.{head_takers}
+use Rattle.hm_elements.specs.Omission.{head_takers, up_of_p}
 use Rattle.hm_elements.specs.Paths.{blank_parents}
-use Rattle.hm_elements.specs.Tables.{roots, voids, rcdata_names, raw_names, refused_names, headings, sections, cells, metadata_names, unnested_names, paragraph_ends, boundaries, svg_boundaries, block_names, svg_names, preformatted, space_parents, boolean_attributes}
+use Rattle.hm_elements.specs.Tables.{roots, voids, rcdata_names, raw_names, refused_names, headings, sections, cells, metadata_names, unnested_names, blocks, paragraph_ends, boundaries, svg_boundaries, block_names, svg_names, preformatted, space_parents, boolean_attributes}
 
 -- the text of a name that may be missing
 abbrev pub optional_text : Option Name → Option (List ℕ)
@@ -43,6 +43,8 @@ flags =
     ∷ (noscript ∷ [])
     ∷ (div ∷ [])
     ∷ words "dt dd"
+    ∷ blocks
+    ∷ up_of_p
     ∷ []
 
 -- the list with this flag

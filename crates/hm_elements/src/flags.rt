@@ -88,6 +88,12 @@ pub(crate) const DIV: u8 = 23;
 /// The place of the flag of `dt` and `dd`.
 pub(crate) const DESCRIPTION: u8 = 24;
 
+/// The place of the flag of elements before whose start tags `</p>` may be left out.
+pub(crate) const PARAGRAPH_BLOCK: u8 = 25;
+
+/// The place of the flag of parents at whose end `</p>` may be left out.
+pub(crate) const PARAGRAPH_PARENT: u8 = 26;
+
 /// The flags of each number.
 fn flags() -> &'static [u32]
     ensures flags { result.now ≡ FLAGS }

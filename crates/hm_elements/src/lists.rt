@@ -7,7 +7,6 @@ ghost use Rattle.hm_elements.specs.Names.{is_among};
 ghost use Rattle.hm_elements.specs.Paths.{blank_parents};
 ghost use Rattle.hm_elements.specs.Tables as tables;
 
-use crate::flags::{BLANK_PARENT, METADATA, SPACE_PARENT, is_listed};
 use crate::look_up::{is_one_of, same_name};
 
 /// Whether the element is `html`, `head` or `body`.
@@ -43,11 +42,11 @@ pub fn is_cell(name: &str) -> bool
 
 /// Whether the element is metadata, which doesn't stand between `head` and `body` (HTML Standard,
 /// #the-after-head-insertion-mode).
-#[tactic(auto, unfolding(crate::specs::Rows::listed_at, crate::specs::Rows::flags, crate::specs::Tables::is_metadata))]
+#[tactic(auto, unfolding(crate::specs::Tables::is_metadata))]
 pub fn is_metadata(name: &str) -> bool
     ensures { result ≡ tables.is_metadata name.now }
 {
-    is_listed(name, METADATA)
+    is_one_of(name, &["base", "link", "meta", "script", "style", "title"])
 }
 
 /// Whether whitespace is seen as it is in the HTML element, and a line feed directly after its start tag is dropped
@@ -59,19 +58,30 @@ pub fn is_preformatted(name: &str) -> bool
 }
 
 /// Whether a text directly in the HTML element is only whitespace.
-#[tactic(auto, unfolding(crate::specs::Rows::listed_at, crate::specs::Rows::flags))]
+#[tactic(auto, unfolding(crate::specs::Paths::blank_parents))]
 pub fn is_blank_parent(name: &str) -> bool
     ensures { result ≡ is_among name.now blank_parents }
 {
-    is_listed(name, BLANK_PARENT)
+    is_one_of(
+        name,
+        &[
+            "head", "table", "thead", "tbody", "tfoot", "tr", "colgroup", "select", "optgroup",
+        ],
+    )
 }
 
 /// Whether a text of only whitespace isn't seen directly in the HTML element.
-#[tactic(auto, unfolding(crate::specs::Rows::listed_at, crate::specs::Rows::flags))]
+#[tactic(auto, unfolding(crate::specs::Tables::space_parents))]
 pub fn is_space_parent(name: &str) -> bool
     ensures { result ≡ is_among name.now tables.space_parents }
 {
-    is_listed(name, SPACE_PARENT)
+    is_one_of(
+        name,
+        &[
+            "html", "head", "table", "colgroup", "thead", "tbody", "tfoot", "tr", "select",
+            "optgroup", "datalist", "ul", "ol", "menu", "dir", "dl",
+        ],
+    )
 }
 
 /// Whether the attribute says nothing where its value is only whitespace.

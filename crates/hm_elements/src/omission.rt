@@ -2,26 +2,78 @@
 ghost use Rattle.std.specs.Prelude.{◌≡◌};
 ghost use Rattle.hm_elements.specs.Names.{is_among};
 ghost use Rattle.hm_elements.specs.Omission as omission;
+ghost use Rattle.hm_elements.specs.Tables as tables;
 
-use crate::flags::{HEAD_TAKER, is_listed};
-use crate::lists::is_section;
+use crate::flags::{PARAGRAPH_BLOCK, PARAGRAPH_PARENT, is_listed};
+use crate::lists::{is_cell, is_section};
 use crate::look_up::{is_one_of, same_name};
-use crate::name::Name;
+
+/// Whether the end tag of a paragraph may be left out before the start tag of the HTML element.
+#[tactic(auto, unfolding(crate::specs::Rows::listed_at, crate::specs::Rows::flags))]
+fn end_tag_of_p_optional_before(next: &str) -> bool
+    ensures { result ≡ is_among next.now tables.blocks }
+{
+    is_listed(next, PARAGRAPH_BLOCK)
+}
 
 /// Whether the end tag of the HTML element may be left out before the start tag of the HTML element `next`.
-#[tactic(auto, using(crate::proofs::Told::before_named))]
+#[tactic(auto, unfolding(crate::specs::Omission::end_tag_optional_before, crate::specs::Omission::before_rows, crate::specs::Names::is_among, crate::specs::Tables::is_section, crate::specs::Tables::sections))]
 pub fn end_tag_optional_before(name: &str, next: &str) -> bool
     ensures { result ≡ omission.end_tag_optional_before name.now next.now }
 {
-    Name::of(name).end_tag_optional_before(Name::of(next))
+    if is_cell(name) {
+        is_cell(next)
+    } else if same_name(name, "colgroup") {
+        true
+    } else if is_one_of(name, &["caption"]) {
+        is_one_of(next, &["colgroup"]) || is_section(next)
+    } else if is_one_of(name, &["thead", "tbody"]) {
+        is_one_of(next, &["tbody", "tfoot"])
+    } else if is_one_of(name, &["tr"]) {
+        is_one_of(next, &["tr"])
+    } else if is_one_of(name, &["li"]) {
+        is_one_of(next, &["li"])
+    } else if is_one_of(name, &["dt", "dd"]) {
+        is_one_of(next, &["dt", "dd"])
+    } else if is_one_of(name, &["rt", "rp"]) {
+        is_one_of(next, &["rt", "rp"])
+    } else if is_one_of(name, &["optgroup"]) {
+        is_one_of(next, &["optgroup"])
+    } else if is_one_of(name, &["option"]) {
+        is_one_of(next, &["option", "optgroup"])
+    } else if is_one_of(name, &["p"]) {
+        end_tag_of_p_optional_before(next)
+    } else {
+        false
+    }
 }
 
 /// Whether the end tag of the HTML element may be left out at the end of this parent.
-#[tactic(auto, using(crate::proofs::Told::inside_named))]
+#[tactic(auto, unfolding(crate::specs::Omission::end_tag_optional_in, crate::specs::Omission::up_names, crate::specs::Names::is_among))]
 pub fn end_tag_optional_in(name: &str, parent: &str) -> bool
     ensures { result ≡ omission.end_tag_optional_in name.now parent.now }
 {
-    Name::of(name).end_tag_optional_in(Name::of(parent))
+    if same_name(name, "p") {
+        is_parent_of_loose_p(parent)
+    } else if same_name(name, "option") {
+        !same_name(parent, "datalist")
+    } else {
+        is_one_of(
+            name,
+            &[
+                "caption", "colgroup", "tbody", "tfoot", "tr", "td", "th", "li", "dd", "rt", "rp",
+                "optgroup",
+            ],
+        )
+    }
+}
+
+/// Whether the end tag of a paragraph may be left out at the end of this parent.
+#[tactic(auto, unfolding(crate::specs::Rows::listed_at, crate::specs::Rows::flags))]
+fn is_parent_of_loose_p(parent: &str) -> bool
+    ensures { result ≡ is_among parent.now omission.up_of_p }
+{
+    is_listed(parent, PARAGRAPH_PARENT)
 }
 
 /// Whether the start tag of the HTML element may be left out before the start tag of this child.
@@ -48,9 +100,8 @@ pub fn start_tag_required_after(before: &str, name: &str) -> bool
 }
 
 /// Whether the HTML element is taken into `head` where no start tag of `body` stands before it.
-#[tactic(auto, unfolding(crate::specs::Rows::listed_at, crate::specs::Rows::flags))]
 pub fn stays_in_head(name: &str) -> bool
     ensures { result ≡ is_among name.now omission.head_takers }
 {
-    is_listed(name, HEAD_TAKER)
+    is_one_of(name, &["link", "meta", "noscript", "script", "style"])
 }

@@ -1,14 +1,18 @@
 //! Which number a name may have, by a hash of some of its bytes. Written by `tables/element_names.py`.
 
-/// What the hash multiplies the length by, and the first byte, and those at a third, at half and at the end of the name.
+/// What the hash multiplies a name's length by.
 pub(crate) const BY_LENGTH: usize = 1070;
 
+/// What the hash multiplies a name's first byte by.
 pub(crate) const BY_FIRST: usize = 151;
 
+/// What the hash multiplies a name's byte at a third by.
 pub(crate) const BY_THIRD: usize = 1027;
 
+/// What the hash multiplies a name's byte at half by.
 pub(crate) const BY_HALF: usize = 25;
 
+/// What the hash multiplies a name's last byte by.
 pub(crate) const BY_LAST: usize = 1338;
 
 /// The number of the name with this hash; 0 if there is none.

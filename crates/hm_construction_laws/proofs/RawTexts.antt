@@ -128,8 +128,8 @@ unfolding read_tag read_start read_end
 tag_is_read t s = by (strip (codes "</") s)
   where
     by : (o : Option (List ℕ)) → IsTag (read_by t o (drop 1 s))
-    by None = start_is_tag t (tag_name (drop 1 s)) (cut_tag (bytes.after is_name_byte (drop 1 s)))
-    by (Some r) = end_is_tag (tag_name r) (cut_tag (bytes.after is_name_byte r))
+    by None = start_is_tag t (tag_name (drop 1 s)) (cut_tag (bytes.rest_after is_name_byte (drop 1 s)))
+    by (Some r) = end_is_tag (tag_name r) (cut_tag (bytes.rest_after is_name_byte r))
 
 -- the end tag of a text is read here
 abbrev pub TagHere : List Entry → Mode → List ℕ → Type 0

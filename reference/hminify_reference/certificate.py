@@ -87,8 +87,8 @@ def full(graph, fmt, prices):
         else:
             layer = []
             for (_, n, at), in graph.layers()[k][1]:
-                behind = out[-1][at]
-                layer.append(None if behind is None else n + behind)
+                after = out[-1][at]
+                layer.append(None if after is None else n + after)
             out.append(layer)
     out.reverse()
     return out

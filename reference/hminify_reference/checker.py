@@ -6,13 +6,13 @@ from .text import CHECK_LIMIT, Refused
 from .walk import first_other
 
 
-def why_not(T, wanted, out, cert, rules, stop=None):
+def why_not(table, wanted, out, cert, rules, stop=None):
     """None for yes, else a tuple of the number of the condition and its parts. `stop` is a
     test after condition 2, for fragments."""
     if cert.rules != rules:
         return (1,)
     try:
-        tree = tree_of(T, out, CHECK_LIMIT)
+        tree = tree_of(table, out, CHECK_LIMIT)
     except Refused as r:
         return (2, r.rule, r.at)
     if stop is not None:
@@ -22,7 +22,7 @@ def why_not(T, wanted, out, cert, rules, stop=None):
     other = first_other(tree, wanted)
     if other is not None:
         return (3, other)
-    graph = Graph(T, rules, wanted, fmt=cert.format)
+    graph = Graph(table, rules, wanted, fmt=cert.format)
     written = graph.written(cert.format)
     if len(cert.prices) != len(written):
         return (4, len(cert.prices), len(written))

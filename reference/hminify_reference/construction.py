@@ -1,6 +1,6 @@
 """Tree construction (#tree-construction)."""
-from . import elements as E
-from . import tokens as K
+from . import elements
+from . import tokens
 from .text import Refused, is_space, read_text
 from .walk import Comment, Doctype, End, Start, Text
 
@@ -8,7 +8,7 @@ def open_p(path):
     for name, foreign in reversed(path):
         if name == "p" and not foreign:
             return True
-        if E.is_boundary(name, foreign):
+        if elements.is_boundary(name, foreign):
             return False
     return False
 
@@ -17,36 +17,36 @@ def start_moves(path, n):
     """What a start tag does in the body: the number of elements that it closes and those that it makes, or a rule
     (#parsing-main-inbody). `path` has pairs of a name and whether it is foreign, from html and body on."""
     if path[-1][1]:
-        if n not in E.SVG:
+        if n not in elements.SVG:
             return "ForeignName"
         if path[-1][0] in ("title", "desc"):
             return "WrongParent"
         return "TooDeep" if len(path) >= 512 else (0, ())
-    if n in E.REFUSED:
+    if n in elements.REFUSED:
         return "RefusedName"
-    if n in E.ROOTS:
+    if n in elements.ROOTS:
         return "SecondRoot"
     closes = 0
-    while E.yields(path[len(path) - 1 - closes][0], n):
+    while elements.yields(path[len(path) - 1 - closes][0], n):
         closes += 1
     rest = path[:len(path) - closes]
-    if E.closes_p(n) and open_p(rest):
+    if elements.closes_p(n) and open_p(rest):
         return "BlockInParagraph"
-    if n in E.NESTED and (n, False) in rest:
+    if n in elements.NESTED and (n, False) in rest:
         return "Nested"
-    if n in E.HEADINGS and any(m in E.HEADINGS and not f for m, f in rest):
+    if n in elements.HEADINGS and any(m in elements.HEADINGS and not f for m, f in rest):
         return "Nested"
     current = rest[-1][0]
     made = ()
     if current == "table":
         made = {"tr": ("tbody",), "td": ("tbody", "tr"), "th": ("tbody", "tr"),
                 "col": ("colgroup",)}.get(n, ())
-    elif current in E.SECTIONS and n in ("td", "th"):
+    elif current in elements.SECTIONS and n in ("td", "th"):
         made = ("tr",)
     if len(rest) + len(made) > 512:
         return "TooDeep"
     rest = rest + [(m, False) for m in made]
-    if not E.may_stand(n, rest[-1][0], rest[-2][0]):
+    if not elements.may_stand(n, rest[-1][0], rest[-2][0]):
         return "WrongParent"
     if len(rest) >= 512:
         return "TooDeep"
@@ -61,7 +61,7 @@ def end_moves(path, n):
     if n == "head":
         return "StrayEnd"
     k = len(path) - 1
-    while k > 0 and path[k][0] != n and E.ends_with(path[k][0], n):
+    while k > 0 and path[k][0] != n and elements.ends_with(path[k][0], n):
         k -= 1
     if path[k][0] == n:
         return len(path) - k
@@ -76,16 +76,16 @@ class State:
         self.phase = "Initial"
         self.path = []
         self.events = []
-        self.text = None              # code points of the last event where it is a text
+        self.text = None              # code points of the last event, if that is a text
         self.after_pre = False
-        self.behind_body = []
-        self.behind_html = []
+        self.after_body = []
+        self.after_html = []
 
     # what a step does to the walk
 
     def flush(self):
         if self.text is not None:
-            raw = bool(self.path) and not self.path[-1][1] and self.path[-1][0] in E.RAWISH
+            raw = bool(self.path) and not self.path[-1][1] and self.path[-1][0] in elements.RAWISH
             self.events.append(Text("".join(self.text), raw))
             self.text = None
 
@@ -111,21 +111,21 @@ class State:
     def in_text(self):
         """The state is inside the text of RCDATA, raw text or script."""
         c = self.current()
-        return c is not None and not c[1] and c[0] in E.RCDATA | E.RAWISH
+        return c is not None and not c[1] and c[0] in elements.RCDATA | elements.RAWISH
 
     def mode(self):
         c = self.current()
         if c is None:
-            return K.HTML
+            return tokens.HTML
         if c[1]:
-            return K.FOREIGN
-        if c[0] in E.RCDATA:
-            return K.rcdata(c[0])
+            return tokens.FOREIGN
+        if c[0] in elements.RCDATA:
+            return tokens.rcdata(c[0])
         if c[0] == "script":
-            return K.SCRIPT
-        if c[0] in E.RAW:
-            return K.raw(c[0])
-        return K.HTML
+            return tokens.SCRIPT
+        if c[0] in elements.RAW:
+            return tokens.raw(c[0])
+        return tokens.HTML
 
     def noscript_in_head(self):
         return self.phase == "InHead" and self.current() == ("noscript", False)
@@ -160,9 +160,9 @@ class State:
 
     def comment(self, text):
         if self.phase == "AfterBody":
-            self.behind_body.append(Comment(text))
+            self.after_body.append(Comment(text))
         elif self.phase == "AfterHtml":
-            self.behind_html.append(Comment(text))
+            self.after_html.append(Comment(text))
         else:
             self.add(Comment(text))
 
@@ -196,7 +196,7 @@ class State:
             raise Refused("AfterBody", at)
         if not space:
             name, foreign = self.current()
-            if not foreign and (name in E.SECTIONS or name in
+            if not foreign and (name in elements.SECTIONS or name in
                                 ("table", "tr", "colgroup", "select", "optgroup")):
                 raise Refused("TextHere", at)
         self.put(c)
@@ -212,47 +212,59 @@ class State:
         if self.phase in ("AfterBody", "AfterHtml"):
             raise Refused("AfterBody", at)
         if self.current() is not None and self.current()[1]:
-            m = start_moves(self.path, n)
-            if isinstance(m, str):
-                raise Refused(m, at)
-            self.open(n, True, attrs, at)
-            if slash:
-                self.close()
-            return
-        if n in E.REFUSED:
+            self.start_in_svg(n, attrs, slash, at)
+        elif n in elements.REFUSED:
             raise Refused("RefusedName", at)
-        if n == "html":
-            if self.phase != "BeforeHtml":
-                raise Refused("SecondRoot", at)
-            self.open("html", False, attrs, at)
-            self.phase = "BeforeHead"
-            return
-        if n == "head":
-            if self.phase not in ("BeforeHtml", "BeforeHead"):
-                raise Refused("SecondRoot", at)
-            self.make_up_to("html", at)
-            self.open("head", False, attrs, at)
-            self.phase = "InHead"
-            return
-        if n == "body":
-            if self.phase not in ("BeforeHtml", "BeforeHead", "InHead", "AfterHead") \
-                    or self.noscript_in_head():
-                raise Refused("SecondRoot", at)
-            self.make_up_to("head", at)
-            if self.phase == "InHead":
-                self.close()
-            self.open("body", False, attrs, at)
-            self.phase = "InBody"
-            return
+        elif n in elements.ROOTS:
+            {"html": self.start_html, "head": self.start_head, "body": self.start_body}[n](attrs, at)
+        else:
+            self.start_element(n, attrs, slash, at)
+
+    def start_in_svg(self, n, attrs, slash, at):
+        """#parsing-main-inforeign."""
+        m = start_moves(self.path, n)
+        if isinstance(m, str):
+            raise Refused(m, at)
+        self.open(n, True, attrs, at)
+        if slash:
+            self.close()
+
+    def start_html(self, attrs, at):
+        """#the-before-html-insertion-mode."""
+        if self.phase != "BeforeHtml":
+            raise Refused("SecondRoot", at)
+        self.open("html", False, attrs, at)
+        self.phase = "BeforeHead"
+
+    def start_head(self, attrs, at):
+        """#the-before-head-insertion-mode."""
+        if self.phase not in ("BeforeHtml", "BeforeHead"):
+            raise Refused("SecondRoot", at)
+        self.make_up_to("html", at)
+        self.open("head", False, attrs, at)
+        self.phase = "InHead"
+
+    def start_body(self, attrs, at):
+        """#the-after-head-insertion-mode."""
+        if self.phase not in ("BeforeHtml", "BeforeHead", "InHead", "AfterHead") or self.noscript_in_head():
+            raise Refused("SecondRoot", at)
+        self.make_up_to("head", at)
+        if self.phase == "InHead":
+            self.close()
+        self.open("body", False, attrs, at)
+        self.phase = "InBody"
+
+    def start_element(self, n, attrs, slash, at):
+        """Any other element, which head or body takes (#parsing-main-inhead, #the-after-head-insertion-mode)."""
         if self.phase in ("BeforeHtml", "BeforeHead"):
             self.make_up_to("head", at)
+        if self.noscript_in_head():
+            if n not in ("link", "meta", "style"):
+                raise Refused("WrongParent", at)
+            self.open_html(n, attrs, at)
+            return
         if self.phase == "InHead":
-            if self.noscript_in_head():
-                if n not in ("link", "meta", "style"):
-                    raise Refused("WrongParent", at)
-                self.open_html(n, attrs, at)
-                return
-            if E.may_stand(n, "head", "html"):
+            if elements.may_stand(n, "head", "html"):
                 self.open_html(n, attrs, at)
                 return
             self.close()
@@ -261,6 +273,10 @@ class State:
             if n in ("base", "link", "meta", "script", "style", "title"):
                 raise Refused("AfterHead", at)
             self.make_up_to("body", at)
+        self.start_in_body(n, attrs, slash, at)
+
+    def start_in_body(self, n, attrs, slash, at):
+        """#parsing-main-inbody."""
         m = start_moves(self.path, n)
         if isinstance(m, str):
             raise Refused(m, at)
@@ -269,16 +285,16 @@ class State:
             self.close()
         for name in made:
             self.open(name, False, (), at)
-        if n == "svg":
-            self.open(n, True, attrs, at)
-            if slash:
-                self.close()
-        else:
+        if n != "svg":
             self.open_html(n, attrs, at)
+            return
+        self.open(n, True, attrs, at)
+        if slash:
+            self.close()
 
     def open_html(self, n, attrs, at):
         self.open(n, False, attrs, at)
-        if n in E.VOID:
+        if n in elements.VOID:
             self.close()
 
     def end_tag(self, n, at):
@@ -301,18 +317,8 @@ class State:
                 self.close()
                 return
             raise Refused("NotCurrent" if any(m == n for m, _ in self.path) else "StrayEnd", at)
-        if n == "head":
-            if self.phase not in ("BeforeHtml", "BeforeHead", "InHead"):
-                raise Refused("StrayEnd", at)
-            self.make_up_to("head", at)
-            self.close()
-            self.phase = "AfterHead"
-            return
-        if n in ("body", "html"):
-            self.make_up_to("body", at)
-            if not self.body_ends():
-                raise Refused("Unclosed", at)
-            self.phase = "AfterBody" if n == "body" else "AfterHtml"
+        if n in elements.ROOTS:
+            self.end_root(n, at)
             return
         if self.phase != "InBody":
             raise Refused("StrayEnd", at)
@@ -321,6 +327,20 @@ class State:
             raise Refused(m, at)
         for _ in range(m):
             self.close()
+
+    def end_root(self, n, at):
+        """The end tags of head, body and html (#parsing-main-inhead, #parsing-main-inbody)."""
+        if n == "head":
+            if self.phase not in ("BeforeHtml", "BeforeHead", "InHead"):
+                raise Refused("StrayEnd", at)
+            self.make_up_to("head", at)
+            self.close()
+            self.phase = "AfterHead"
+            return
+        self.make_up_to("body", at)
+        if not self.body_ends():
+            raise Refused("Unclosed", at)
+        self.phase = "AfterBody" if n == "body" else "AfterHtml"
 
     def body_ends(self):
         names = [n for n, _ in self.path]
@@ -371,9 +391,9 @@ class State:
         while len(self.path) > 1:
             self.close()
         self.flush()
-        self.events.extend(self.behind_body)
+        self.events.extend(self.after_body)
         self.close()
-        self.events.extend(self.behind_html)
+        self.events.extend(self.after_html)
         return self.events
 
 
@@ -382,7 +402,7 @@ def parse_closed(source, table):
     state, s, at, closed = State(), source.text, 0, None
     while True:
         try:
-            t = K.first(table, state.mode(), s, at)
+            t = tokens.first(table, state.mode(), s, at)
         except Refused as r:
             raise Refused(r.rule, source.place_of(r.at))
         if t is None:

@@ -13,11 +13,11 @@ def unframe(data):
     return data[len(FRONT):] if data.startswith(FRONT) else None
 
 
-def fragment_tree(T, data):
+def fragment_tree(table, data):
     """The walk of the page after the front; no limit is looked at."""
     whole = framed(data)
     try:
-        tree, closed = parse_closed(read_text(whole, len(whole)), T)
+        tree, closed = parse_closed(read_text(whole, len(whole)), table)
     except Refused as r:
         raise Refused(r.rule, r.at - len(FRONT))
     if closed is not None:
@@ -25,7 +25,7 @@ def fragment_tree(T, data):
     return tree
 
 
-def read_fragment(T, data, limit):
+def read_fragment(table, data, limit):
     if len(data) > limit:
         raise Refused("TooLong", limit)
-    return fragment_tree(T, data)
+    return fragment_tree(table, data)

@@ -1,7 +1,7 @@
 """The layered graph of all spellings: units, states, edges, least prices and the first way."""
 from collections import namedtuple
 
-from . import elements as E
+from . import elements
 from .omission import may_omit_end, may_omit_start, needs_firm
 from .spellings import ascii_allows, newline_due
 from .references import best_number
@@ -29,7 +29,7 @@ def half(left):
     return ("Half", left)
 
 
-def step_byte(pending, T, spot, c):
+def step_byte(pending, table, spot, c):
     """One byte; c is a code point below 80 hex, or any other for a byte that is above."""
     kind = pending[0]
     if kind == "Nothing":
@@ -50,53 +50,53 @@ def step_byte(pending, T, spot, c):
     if kind == "Half":
         return None
     node = pending[1]
-    child = T.child(node, c)
+    child = table.child(node, c)
     alnum = c in LETTERS or c in DIGITS or c == "="
     if kind == "Amp":
-        if value and T.is_name(node):
+        if value and table.is_name(node):
             return None if not alnum else amp(child) if child else NOTHING
-        if child and T.is_name(child) and (not value or c == ";"):
+        if child and table.is_name(child) and (not value or c == ";"):
             return None
         return amp(child) if child else HASH if node == "&" and c == "#" else NOTHING
     assert kind == "Named"
     if value:
         return None if alnum or (c == ";" and child) else NOTHING
-    if child and T.is_name(child):
+    if child and table.is_name(child):
         return None
     return named(child) if child else NOTHING
 
 
-def step(pending, T, spot, s):
+def step(pending, table, spot, s):
     """All bytes of s."""
     for c in s:
         for _ in range(utf8_len(c)):
             if pending == NOTHING:
                 break
-            pending = step_byte(pending, T, spot, c)
+            pending = step_byte(pending, table, spot, c)
             if pending is None:
                 return None
     return pending
 
 
-def may_end(pending, T, spot):
+def may_end(pending, table, spot):
     if pending[0] == "Half":
         return False
-    return not (spot in VALUES and pending[0] == "Amp" and T.is_name(pending[1]))
+    return not (spot in VALUES and pending[0] == "Amp" and table.is_name(pending[1]))
 
 
-def units_of(w):
+def units_of(walk):
     """The units of a walk, in order."""
     out, stack = [], []
-    for k, e in enumerate(w):
+    for k, e in enumerate(walk):
         if isinstance(e, (Doctype, Comment)):
             out.append(Unit("Fixed", k, "Whole"))
         elif isinstance(e, Text):
             if e.raw:
                 out.append(Unit("Fixed", k, "Whole"))
                 continue
-            p = w[stack[-1]]
-            spot = "Foreign" if p.foreign else "Rcdata" if p.name in E.RCDATA else "Text"
-            if newline_due(w, k, stack[-1]):
+            p = walk[stack[-1]]
+            spot = "Foreign" if p.foreign else "Rcdata" if p.name in elements.RCDATA else "Text"
+            if newline_due(walk, k, stack[-1]):
                 out.append(Unit("Fixed", k, "Newline"))
             out.extend(_chars(k, None, spot, e.text))
         elif isinstance(e, Start):
@@ -104,18 +104,18 @@ def units_of(w):
                 out.append(Unit("Start", k))
             else:
                 out.append(Unit("Head", k))
-                out.extend(attr_units(w, k))
+                out.extend(attr_units(walk, k))
                 out.append(Unit("Finish", k))
             stack.append(k)
         else:
-            if e.foreign or e.name not in E.VOID:
+            if e.foreign or e.name not in elements.VOID:
                 out.append(Unit("End", k))
             stack.pop()
     return out
 
 
-def attr_units(w, k):
-    for a, (_, value) in enumerate(w[k].attrs):
+def attr_units(walk, k):
+    for a, (_, value) in enumerate(walk[k].attrs):
         if value == "":
             yield Unit("Bare", k, a)
             continue
@@ -132,9 +132,9 @@ def _chars(k, a, spot, text):
 class Graph:
     """`fmt` is the certificate's format; the graph of format 3 has no edges that are dominated."""
 
-    def __init__(self, T, r, w, units=None, fmt=2):
-        self.T, self.r, self.w, self.fmt = T, r, w, fmt
-        self.units = units_of(w) if units is None else units
+    def __init__(self, table, rules, walk, units=None, fmt=2):
+        self.table, self.rules, self.walk, self.fmt = table, rules, walk, fmt
+        self.units = units_of(walk) if units is None else units
         self._layers = None
         self._char = {}
 
@@ -147,7 +147,7 @@ class Graph:
         kept = without_dominated(all_of, lambda t, s: [0] if serves(t, s) else [])
         return without_dominated(kept, lambda t, s: self.bounds(layer + 1, t, s))
 
-    # format 3: which edges outdo others, in view of the units behind
+    # format 3: which edges dominate others, in view of the units after
 
     def bounds(self, k, t, s):
         """Numbers h such that, over the units from k on, for each way from s there is one from t
@@ -166,18 +166,18 @@ class Graph:
 
     def bound_of_forms(self, v, t, s):
         """How many bytes more the value and what follows may have in the form t than in s, where all
-        that may stand as itself in s may in t."""
-        stands = lambda at, c: self.literal_may(SPOTS[at], c)   # noqa: E731
+        that may be written as itself in s may be so in t."""
+        may = lambda at, c: self.literal_may(SPOTS[at], c)   # noqa: E731
         quote = lambda at: 0 if at == "InU" else 1   # noqa: E731
-        if all(stands(t, c) or not stands(s, c) for c in v):
-            behind = 1 if t == "InU" else 0     # a space, which needn't stand behind a quote
-            gains = any(stands(t, c) and not stands(s, c) and self.is_costly(v, i) for i, c in enumerate(v))
-            yield quote(t) - quote(s) + behind - (3 if gains else 0)
+        if all(may(t, c) or not may(s, c) for c in v):
+            after = 1 if t == "InU" else 0     # a space, which isn't needed after a quote
+            gains = any(may(t, c) and not may(s, c) and self.is_costly(v, i) for i, c in enumerate(v))
+            yield quote(t) - quote(s) + after - (3 if gains else 0)
 
     def is_costly(self, v, i):
         """Each reference to the character has at least 3 bytes more there, and as itself it breaks
         nothing that & doesn't break."""
-        names, c = self.T.names, v[i]
+        names, c = self.table.names, v[i]
         return c in "\n\f \"'<>`=" and all(len(n) >= 4 for n, p in names.items() if p == (c,)) \
             and not any(p[1:] == (c,) for p in names.values()) \
             and (c, *v[i + 1:i + 2]) not in [p for p in names.values() if len(p) == 2] \
@@ -195,16 +195,16 @@ class Graph:
         return list(self.attr_edges(u, s))
 
     def svg_alone(self, k):
-        return self.w[k].foreign and isinstance(self.w[k + 1], End)
+        return self.walk[k].foreign and isinstance(self.walk[k + 1], End)
 
     def tag_edges(self, u, s):
-        w, k, r = self.w, u.event, self.r
-        e = w[k]
+        walk, k, rules = self.walk, u.event, self.rules
+        e = walk[k]
         if u.kind == "Fixed":
             yield (fixed_bytes(e, u.attr), FIRST)
         elif u.kind == "Start":
-            if r.omit and may_omit_start(w, k) and not (r.frame and e.name == "body") \
-                    and not (s.at == "Loose" and needs_firm(w, k)):
+            if rules.omit and may_omit_start(walk, k) and not (rules.frame and e.name == "body") \
+                    and not (s.at == "Loose" and needs_firm(walk, k)):
                 yield ("", State("Out", s.pending) if s.at == "Loose" else s)
             yield ("<" + e.name + ">", FIRST)
             if self.svg_alone(k):
@@ -212,12 +212,12 @@ class Graph:
         elif s.at == "Selfed":
             yield ("", FIRST)
         else:
-            if r.omit and may_omit_end(w, k):
-                yield ("", State("Loose", NOTHING) if e.name in E.SECTIONS | {"colgroup"} else s)
+            if rules.omit and may_omit_end(walk, k):
+                yield ("", State("Loose", NOTHING) if e.name in elements.SECTIONS | {"colgroup"} else s)
             yield ("</" + e.name + ">", FIRST)
 
     def attr_edges(self, u, s):
-        e = self.w[u.event]
+        e = self.walk[u.event]
         if u.kind == "Head":
             yield ("<" + e.name, State("GapName", NOTHING))
             return
@@ -227,16 +227,16 @@ class Graph:
                 yield (" />" if s.at == "GapUnq" else "/>", State("Selfed", NOTHING))
             return
         if u.kind == "AttrFinish":
-            if may_end(s.pending, self.T, SPOTS[s.at]):
+            if may_end(s.pending, self.table, SPOTS[s.at]):
                 yield {"InU": ("", State("GapUnq", NOTHING)),
                        "InD": ('"', State("GapQuo", NOTHING)),
                        "InS": ("'", State("GapQuo", NOTHING))}[s.at]
             return
-        front = ("" if s.at == "GapQuo" and self.r.tight else " ") + e.attrs[u.attr][0]
+        front = ("" if s.at == "GapQuo" and self.rules.tight else " ") + e.attrs[u.attr][0]
         if u.kind == "Bare":
             yield (front, State("GapName", NOTHING))
             return
-        if self.r.unquote:
+        if self.rules.unquote:
             yield (front + "=", State("InU", NOTHING))
         yield (front + '="', State("InD", NOTHING))
         yield (front + "='", State("InS", NOTHING))
@@ -246,14 +246,14 @@ class Graph:
 
     def literal_may(self, spot, c):
         """Whether c may be written as itself, whatever follows."""
-        if c == "\r" or not ascii_allows(self.r, c):
+        if c == "\r" or not ascii_allows(self.rules, c):
             return False
         if spot == "Double" and c == '"' or spot == "Single" and c == "'":
             return False
         return not (spot == "Unquoted" and (c in WHITESPACE or c in "\"'=<>`"))
 
     def char_edges(self, u, s):
-        T, c, spot = self.T, u.c, self.spot(u, s)
+        table, c, spot = self.table, u.c, self.spot(u, s)
         to = lambda p: State(s.at, p)   # noqa: E731
         if s.at == "InC":
             yield from self.section_edges(u, s)
@@ -263,21 +263,21 @@ class Graph:
             yield ("", to(NOTHING if left is None else named(left)))
             return
         if self.literal_may(spot, c):
-            p = step(s.pending, T, spot, c)
+            p = step(s.pending, table, spot, c)
             if p is not None:
                 if c == "&":
                     p = amp("&")
                 elif c == "<" and spot not in VALUES:
                     p = LT
                 yield (c, to(p))
-        if step(s.pending, T, spot, "&") is not None and \
-                not T.is_plain(c):
-            names = T.names_for(c)
+        if step(s.pending, table, spot, "&") is not None and \
+                not table.is_plain(c):
+            names = table.names_for(c)
             for n in names:
-                if T.names[n] == (c,):
+                if table.names[n] == (c,):
                     yield (n, to(NOTHING if n.endswith(";") else named(n)))
             for n in names:
-                if u.next is not None and T.names[n] == (c, u.next):
+                if u.next is not None and table.names[n] == (c, u.next):
                     yield (n, to(half(None if n.endswith(";") else n)))
             n = best_number(c)
             if n is not None:
@@ -292,7 +292,7 @@ class Graph:
             yield ("<![CDATA[" + c + "]]>", FIRST)
 
     def section_may(self, c):
-        return c != "\r" and ascii_allows(self.r, c)
+        return c != "\r" and ascii_allows(self.rules, c)
 
     def section_edges(self, u, s):
         c = u.c
@@ -309,19 +309,19 @@ class Graph:
 
     def layers(self):
         """For each layer its states, and for each but the last the edges of each state:
-        triples of bytes, their number, and the place of the state behind."""
+        triples of bytes, their number, and the place of the state after."""
         if self._layers is None:
             states, out = [FIRST], []
             for k in range(len(self.units)):
-                behind, row = {}, []
+                after, row = {}, []
                 for s in states:
                     these = []
                     for b, to in self.edges(k, s):
-                        at = behind.setdefault(to, len(behind))
+                        at = after.setdefault(to, len(after))
                         these.append((b, len(b) if b.isascii() else len(b.encode()), at))
                     row.append(these)
                 out.append((states, row))
-                states = list(behind)
+                states = list(after)
             out.append((states, None))
             self._layers = out
         return self._layers
@@ -334,8 +334,8 @@ class Graph:
         layers = self.layers()
         prices = [[0] * len(layers[-1][0])]
         for states, row in reversed(layers[:-1]):
-            behind = prices[-1]
-            prices.append([min((n + behind[at] for _, n, at in these if behind[at] is not None),
+            after = prices[-1]
+            prices.append([min((n + after[at] for _, n, at in these if after[at] is not None),
                                default=None) for these in row])
         prices.reverse()
         return prices
@@ -345,8 +345,8 @@ class Graph:
         out, k = [], 0
         for layer, (_, row) in enumerate(self.layers()[:-1]):
             for b, n, at in row[k]:
-                behind = prices[layer + 1][at]
-                if behind is not None and n + behind == prices[layer][k]:
+                after = prices[layer + 1][at]
+                if after is not None and n + after == prices[layer][k]:
                     out.append(b)
                     k = at
                     break
@@ -367,8 +367,8 @@ class Graph:
 
 
 def without_dominated(edges, bounds):
-    """An edge is dominated by another one from the same state where by one of the bounds of their ends
-    that one comes to fewer bytes, or to as many and stands before it."""
+    """An edge is dominated by another one from the same state if by one of the bounds of their ends
+    that one comes to fewer bytes, or to as many and is before it."""
     size = [len(b.encode("utf-8")) for b, _ in edges]
 
     def dominated(i):

@@ -1,7 +1,7 @@
 """Trees from and to JSON."""
 import json
 
-from . import elements as E
+from . import elements
 from .settled import first_break
 from .references import NotJson, json_value
 from .walk import Comment, Doctype, End, Start, Text
@@ -25,10 +25,10 @@ class JsonFault(Exception):
         return out
 
 
-def json_text(w):
+def json_text(walk):
     """The line that `json` prints, without its line feed."""
     out = []
-    for e in w:
+    for e in walk:
         if isinstance(e, Doctype):
             out.append(["doctype", "legacy" if e.legacy else "plain"])
         elif isinstance(e, Start):
@@ -43,7 +43,7 @@ def json_text(w):
 
 
 def _event(v, path):
-    """The event that an element of the array stands for, or None."""
+    """The event that an item of the array says, or None."""
     if not isinstance(v, list) or not v or not all(isinstance(x, (str, list)) for x in v):
         return None
     kind, rest = v[0], v[1:]
@@ -57,7 +57,7 @@ def _event(v, path):
         foreign = rest[0] == "svg" or (bool(path) and path[-1][1])
         return Start(rest[0], foreign, tuple((a, b) for a, b in rest[1]))
     if kind == "text" and len(rest) == 1 and isinstance(rest[0], str):
-        raw = bool(path) and not path[-1][1] and path[-1][0] in E.RAWISH
+        raw = bool(path) and not path[-1][1] and path[-1][0] in elements.RAWISH
         return Text(rest[0], raw)
     if kind == "comment" and len(rest) == 1 and isinstance(rest[0], str):
         return Comment(rest[0])
@@ -76,7 +76,7 @@ def read_tree(data):
         raise JsonFault("NotJson")
     if not isinstance(value, list):
         raise JsonFault("NotArray")
-    w, path = [], []
+    walk, path = [], []
     for i, v in enumerate(value):
         e = _event(v, path)
         if e is None:
@@ -85,10 +85,10 @@ def read_tree(data):
             path.append((e.name, e.foreign))
         elif isinstance(e, End):
             path.pop()
-        w.append(e)
+        walk.append(e)
     if path:
         raise JsonFault("Open", count=len(path))
-    broken = first_break(w)
+    broken = first_break(walk)
     if broken is not None:
         raise JsonFault("NotSettled", event=broken[0], point=broken[1])
-    return w
+    return walk

@@ -1,6 +1,5 @@
 """What `help` and `version` print. The help is the program's own text."""
-HELP = """\
-hminify writes an HTML page as short as its rules allow, with a certificate.
+HELP = r"""hminify writes an HTML page as short as its rules allow, with a certificate.
 
 usage: hminify COMMAND WORDS.. [FLAGS]
 

@@ -1,12 +1,12 @@
 """Which tags may be left out (#optional-tags)."""
 from dataclasses import dataclass
 
-from . import elements as E
+from . import elements
 from .text import is_space
 from .walk import Comment, End, Start, Text
 
 HEAD_LIKE = frozenset("link meta noscript script style".split())
-P_UP = (E.B - {"hr", "p", "table"}) | frozenset("button li dd dt td th caption object".split())
+P_UP = (elements.B - {"hr", "p", "table"}) | frozenset("button li dd dt td th caption object".split())
 
 
 @dataclass(frozen=True)
@@ -22,9 +22,9 @@ def _html_start(e, names):
     return isinstance(e, Start) and not e.foreign and (names is None or e.name in names)
 
 
-def may_omit_start(w, i):
+def may_omit_start(walk, i):
     """Without `omit`, the clauses on the event directly before, and `frame`."""
-    e, inside = w[i], w[i + 1]
+    e, inside = walk[i], walk[i + 1]
     if e.foreign or e.attrs:
         return False
     if e.name == "html":
@@ -44,30 +44,30 @@ def may_omit_start(w, i):
     return False
 
 
-def needs_firm(w, i):
+def needs_firm(walk, i):
     """The clause on the event before bites where that End's tag was omitted."""
-    e = w[i]
-    before = w[i - 1] if i else None
+    e = walk[i]
+    before = walk[i - 1] if i else None
     if not isinstance(before, End) or before.foreign or e.foreign:
         return False
-    return e.name == "tbody" and before.name in E.SECTIONS \
+    return e.name == "tbody" and before.name in elements.SECTIONS \
         or e.name == "colgroup" and before.name == "colgroup"
 
 
-_END_STARTS = {"caption": E.SECTIONS | {"colgroup"}, "thead": {"tbody", "tfoot"},
+_END_STARTS = {"caption": elements.SECTIONS | {"colgroup"}, "thead": {"tbody", "tfoot"},
                "tbody": {"tbody", "tfoot"}, "tfoot": set(), "tr": {"tr"}, "td": {"td", "th"},
                "th": {"td", "th"}, "li": {"li"}, "dt": {"dt", "dd"}, "dd": {"dt", "dd"},
                "rt": {"rt", "rp"}, "rp": {"rt", "rp"}, "optgroup": {"optgroup"},
-               "option": {"option", "optgroup"}, "p": E.B}
+               "option": {"option", "optgroup"}, "p": elements.B}
 _END_UP = frozenset("caption tbody tfoot tr td th li dd rt rp optgroup option p".split())
 
 
-def may_omit_end(w, i):
+def may_omit_end(walk, i):
     """By the event after it alone."""
-    e = w[i]
+    e = walk[i]
     if e.foreign:
         return False
-    nxt = w[i + 1] if i + 1 < len(w) else None
+    nxt = walk[i + 1] if i + 1 < len(walk) else None
     if e.name in ("html", "body"):
         return not isinstance(nxt, Comment)
     if e.name in ("head", "colgroup"):
@@ -86,14 +86,14 @@ def may_omit_end(w, i):
     return True
 
 
-def omit_start(w, i, r, dropped):
+def omit_start(walk, i, rules, dropped):
     """Whether a start tag may be left out; `dropped`: the event before it is an end whose tag was left out."""
-    return r.omit and may_omit_start(w, i) and not (dropped and needs_firm(w, i)) \
-        and not (r.frame and w[i].name == "body")
+    return rules.omit and may_omit_start(walk, i) and not (dropped and needs_firm(walk, i)) \
+        and not (rules.frame and walk[i].name == "body")
 
 
-def omit_end(w, i, r):
+def omit_end(walk, i, rules):
     """Whether an end tag may be left out."""
-    return r.omit and may_omit_end(w, i)
+    return rules.omit and may_omit_end(walk, i)
 
 

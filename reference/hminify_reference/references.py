@@ -35,53 +35,50 @@ def json_value(data):
     try:
         text = data.decode("utf-8")
     except UnicodeDecodeError:
+        raise NotJson() from None
+    if text.startswith("\ufeff") or _json_depth(text) > 127:
         raise NotJson()
-    if text.startswith("\ufeff"):
-        raise NotJson()
-    depth = 0
-    inside = False
-    skip = False
+    try:
+        value = json.loads(text, parse_constant=_refuse, parse_int=_whole, parse_float=_fraction)
+    except (ValueError, RecursionError):
+        raise NotJson() from None
+    _no_surrogates(value)
+    return value
+
+
+def _json_depth(text):
+    """The most arrays and objects in one another."""
+    depth, most, inside, skip = 0, 0, False, False
     for c in text:
-        if inside:
-            if skip:
-                skip = False
-            elif c == "\\":
-                skip = True
-            elif c == '"':
-                inside = False
+        if skip:
+            skip = False
+        elif inside:
+            skip, inside = c == "\\", c != '"'
         elif c == '"':
             inside = True
         elif c in "[{":
             depth += 1
-            if depth > 127:
-                raise NotJson()
+            most = max(most, depth)
         elif c in "]}":
             depth -= 1
+    return most
 
-    def refuse(_):
+
+def _refuse(_):
+    raise NotJson()
+
+
+def _fraction(digits):
+    value = float(digits)
+    if value in (float("inf"), float("-inf")):
         raise NotJson()
-
-    def whole(s):
-        if s == "-0":
-            return -0.0
-        v = float(s)
-        if v in (float("inf"), float("-inf")):
-            raise NotJson()
-        n = int(s)
-        return n if -(1 << 63) <= n < (1 << 64) else v
-
-    def point(s):
-        v = float(s)
-        if v in (float("inf"), float("-inf")):
-            raise NotJson()
-        return v
-
-    try:
-        value = json.loads(text, parse_constant=refuse, parse_int=whole, parse_float=point)
-    except (ValueError, RecursionError):
-        raise NotJson()
-    _no_surrogates(value)
     return value
+
+
+def _whole(digits):
+    value = _fraction(digits)
+    number = int(digits)
+    return number if digits != "-0" and -(1 << 63) <= number < (1 << 64) else value
 
 
 def _no_surrogates(value):
@@ -147,7 +144,7 @@ def names_of(data):
 
 
 class Table:
-    """The names; a node of the trie stands for the prefix of names that leads to it."""
+    """The names; a node of the trie is the prefix of names that leads to it."""
 
     def __init__(self, names):
         self.names = dict(names)
@@ -237,7 +234,7 @@ def ref(table, value, s, i=0):
     if name is None:
         return None
     if value and not name.endswith(";"):
-        behind = s[i + len(name):i + len(name) + 1]
-        if behind and (behind == "=" or behind in LETTERS or behind in DIGITS):
+        after = s[i + len(name):i + len(name) + 1]
+        if after and (after == "=" or after in LETTERS or after in DIGITS):
             return None
     return (table.names[name], len(name))

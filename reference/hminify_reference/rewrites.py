@@ -2,7 +2,7 @@
 import re
 from dataclasses import dataclass
 
-from . import elements as E
+from . import elements
 from .text import all_space, lower
 from .walk import Comment, Doctype, End, Start, Text, paths
 
@@ -25,9 +25,9 @@ class TreeOptions:
     conservative: bool = False
 
 
-def join_texts(w):
+def join_texts(walk):
     out = []
-    for e in w:
+    for e in walk:
         if isinstance(e, Text) and out and isinstance(out[-1], Text):
             out[-1] = Text(out[-1].text + e.text, e.raw)
         else:
@@ -35,14 +35,14 @@ def join_texts(w):
     return out
 
 
-def _attrs(w, rule):
+def _attrs(walk, rule):
     """Each HTML Start with the attributes that `rule` gives for it and one of them."""
     return [Start(e.name, False, tuple(p for a in e.attrs for p in rule(e.name, a)))
-            if isinstance(e, Start) and not e.foreign else e for e in w]
+            if isinstance(e, Start) and not e.foreign else e for e in walk]
 
 
 def _boolean(name, a):
-    return [(a[0], "")] if a[0] in E.BOOLEAN else [a]
+    return [(a[0], "")] if a[0] in elements.BOOLEAN else [a]
 
 
 def _empty(name, a):
@@ -53,18 +53,18 @@ def _redundant(name, a):
     return [] if (name, a[0], lower(a[1])) in REDUNDANT else [a]
 
 
-def _block(w, i):
-    return 0 <= i < len(w) and isinstance(w[i], (Start, End)) and not w[i].foreign \
-        and w[i].name in E.BLOCKS
+def _block(walk, i):
+    return 0 <= i < len(walk) and isinstance(walk[i], (Start, End)) and not walk[i].foreign \
+        and walk[i].name in elements.BLOCKS
 
 
-def collapse(w, conservative):
+def collapse(walk, conservative):
     out = []
-    for i, (e, path) in enumerate(zip(w, paths(w))):
+    for i, (e, path) in enumerate(zip(walk, paths(walk))):
         if not isinstance(e, Text):
             out.append(e)
             continue
-        names = [w[k].name for k in path]
+        names = [walk[k].name for k in path]
         if e.raw or any(n in ("pre", "textarea", "svg") for n in names):
             out.append(e)
             continue
@@ -74,27 +74,27 @@ def collapse(w, conservative):
             if t == " " and (parent in DROPS_SPACE or (parent, grand) == ("noscript", "head")):
                 t = ""
             else:
-                if t.startswith(" ") and _block(w, i - 1):
+                if t.startswith(" ") and _block(walk, i - 1):
                     t = t[1:]
-                if t.endswith(" ") and _block(w, i + 1):
+                if t.endswith(" ") and _block(walk, i + 1):
                     t = t[:-1]
         if t:
             out.append(Text(t, e.raw))
     return out
 
 
-def rewrite(w, o):
-    w = list(w)
+def rewrite(walk, o):
+    walk = list(walk)
     if o.doctype:
-        w = [Doctype(False) if isinstance(e, Doctype) else e for e in w]
+        walk = [Doctype(False) if isinstance(e, Doctype) else e for e in walk]
     if o.comments:
-        w = join_texts([e for e in w if not isinstance(e, Comment)])
+        walk = join_texts([e for e in walk if not isinstance(e, Comment)])
     if o.booleans:
-        w = _attrs(w, _boolean)
+        walk = _attrs(walk, _boolean)
     if o.empty:
-        w = _attrs(w, _empty)
+        walk = _attrs(walk, _empty)
     if o.redundant:
-        w = _attrs(w, _redundant)
+        walk = _attrs(walk, _redundant)
     if o.space:
-        w = collapse(w, o.conservative)
-    return w
+        walk = collapse(walk, o.conservative)
+    return walk

@@ -1,7 +1,7 @@
 """Settled trees: those that a page can say without repair (#element-restrictions, #cdata-rcdata-restrictions)."""
 import re
 
-from . import elements as E
+from . import elements
 from .text import all_space
 from .tokens import raw_end, script_end
 from .construction import open_p
@@ -12,113 +12,139 @@ _BAD_ATTR = re.compile("[A-Z\t\n\f\r />=\"'<\0]")
 
 def whitespace_only(parent, grand):
     return parent in ("head", "table", "tr", "colgroup", "select", "optgroup") \
-        or parent in E.SECTIONS or (parent == "noscript" and grand == "head")
+        or parent in elements.SECTIONS or (parent == "noscript" and grand == "head")
 
 
-def first_break(w):
+def first_break(walk):
     """(event, point) of the first event that breaks a point, with the least such point, or None. Judged event by
     event, by the open elements and the event before."""
-    path = []                       # pairs (name, foreign)
-    seen_doctype = seen_html = seen_head = seen_body = False
-    for i, e in enumerate(w):
-        broken = set()
-        parent = path[-1] if path else None
-        grand = path[-2][0] if len(path) > 1 else None
-        before = w[i - 1] if i else None
-        if isinstance(before, Start) and not before.foreign and before.name in E.VOID \
-                and not isinstance(e, End):
-            broken.add(5)
-        if isinstance(e, Doctype):
-            if path or seen_doctype or seen_html:
-                broken.add(1)
-            seen_doctype = True
-        elif isinstance(e, Comment):
-            t = e.text
-            if "\0" in t:
-                broken.add(6)
-            if "\r" in t or t.startswith((">", "->")) or "-->" in t or "--!>" in t:
-                broken.add(8)
-        elif isinstance(e, Text):
-            if not path:
-                broken.add(1)
-            if path == [("html", False)] and (
-                    not seen_head or seen_body or not all_space(e.text)):
-                broken.add(2)
-            if e.text == "" or "\0" in e.text or isinstance(before, Text):
-                broken.add(6)
-            under_raw = parent is not None and not parent[1] and parent[0] in E.RAWISH
-            if e.raw != under_raw:
-                broken.add(6)
-            if parent is not None and not parent[1] and whitespace_only(parent[0], grand) \
-                    and not all_space(e.text):
-                broken.add(6)
-            if under_raw:
-                t = e.text + "</" + parent[0] + ">"
-                end = script_end(t) if parent[0] == "script" else raw_end(parent[0], t)
-                if "\r" in e.text or end != len(e.text):
-                    broken.add(7)
-        elif isinstance(e, Start):
-            broken |= _start_breaks(e, path, parent, grand,
-                                    (seen_doctype, seen_html, seen_head, seen_body))
-            if not e.foreign and e.name in E.ROOTS:
-                seen_html |= e.name == "html" and not path
-                seen_head |= e.name == "head" and path == [("html", False)]
-                seen_body |= e.name == "body" and path == [("html", False)]
-            path.append((e.name, e.foreign))
-        else:
-            if path == [("html", False)] and not (seen_head and seen_body):
-                broken.add(2)
-            path.pop()
-        if parent is not None and not parent[1] and parent[0] in E.RAWISH | E.RCDATA \
-                and not isinstance(e, (Text, End)):
-            broken.add(6)
+    judge = Judge()
+    for i, e in enumerate(walk):
+        broken = judge.broken(e)
         if broken:
             return (i, min(broken))
-    if not (seen_doctype and seen_html):
-        return (len(w), 1)
-    return None
+        judge.pass_over(e)
+    return None if judge.seen >= {"doctype", "html"} else (len(walk), 1)
 
 
-def _start_breaks(e, path, parent, grand, seen):
-    seen_doctype, seen_html, seen_head, seen_body = seen
-    broken = set()
-    root = not e.foreign and e.name in E.ROOTS
-    if not path and not (root and e.name == "html" and seen_doctype and not seen_html):
-        broken.add(1)
-    if path == [("html", False)]:
-        if not (root and (e.name == "head" and not seen_head
-                          or e.name == "body" and seen_head and not seen_body)):
-            broken.add(2)
-    elif root and not (not path and e.name == "html"):
-        broken.add(2)
-    if not e.foreign and not root:
-        if parent is None or parent[1]:
-            broken.add(3)
-        if not E.NAME.match(e.name) or e.name in E.REFUSED:
-            broken.add(3)
-        if parent is not None and (not E.may_stand(e.name, parent[0], grand)
-                                   or E.yields(parent[0], e.name)):
-            broken.add(3)
-        if E.closes_p(e.name) and open_p(path):
-            broken.add(3)
-        if e.name in E.NESTED and (e.name, False) in path:
-            broken.add(3)
-        if e.name in E.HEADINGS and any(n in E.HEADINGS and not f for n, f in path):
-            broken.add(3)
-    under_foreign = parent is not None and parent[1]
-    if e.foreign != (e.name == "svg" or under_foreign):
-        broken.add(4)
-    if e.foreign and not under_foreign and parent is not None \
-            and not E.may_stand("svg", parent[0], grand):
-        broken.add(4)
-    if under_foreign and (e.name not in E.SVG or parent[0] in ("title", "desc")):
-        broken.add(4)
-    if any("\0" in v for _, v in e.attrs):
-        broken.add(6)
-    names = [n for n, _ in e.attrs]
-    if len(names) > 256 or len(set(names)) < len(names) \
-            or any(n == "" or _BAD_ATTR.search(n) for n in names):
-        broken.add(9)
-    if len(path) + 1 > 512:
-        broken.add(10)
-    return broken
+class Judge:
+    """The open elements, the event before, and which of the doctype, html, head and body came."""
+
+    def __init__(self):
+        self.path, self.before, self.seen = [], None, set()
+
+    def in_html(self):
+        return self.path == [("html", False)]
+
+    def parents(self):
+        """The name of the parent, whether it is foreign, and the name of the parent's parent."""
+        name, foreign = self.path[-1] if self.path else (None, False)
+        return name, foreign, self.path[-2][0] if len(self.path) > 1 else None
+
+    def pass_over(self, e):
+        if isinstance(e, Doctype):
+            self.seen.add("doctype")
+        elif isinstance(e, Start):
+            if not e.foreign and e.name in elements.ROOTS:
+                self.seen.add(e.name)
+            self.path.append((e.name, e.foreign))
+        elif isinstance(e, End):
+            self.path.pop()
+        self.before = e
+
+    def broken(self, e):
+        """The points that an event breaks."""
+        name, foreign, _ = self.parents()
+        before, points = self.before, set()
+        if isinstance(before, Start) and not before.foreign and before.name in elements.VOID and not isinstance(e, End):
+            points.add(5)
+        if name in elements.RAWISH | elements.RCDATA and not foreign and not isinstance(e, (Text, End)):
+            points.add(6)
+        if isinstance(e, Doctype) and (self.path or self.seen):
+            points.add(1)
+        if isinstance(e, End) and self.in_html() and not self.seen >= {"head", "body"}:
+            points.add(2)
+        if isinstance(e, Comment):
+            points |= comment_breaks(e.text)
+        if isinstance(e, Text):
+            points |= self.text_breaks(e)
+        if isinstance(e, Start):
+            points |= self.root_breaks(e) | self.html_breaks(e) | self.svg_breaks(e) | attribute_breaks(e)
+            if len(self.path) >= 512:
+                points.add(10)
+        return points
+
+    def text_breaks(self, e):
+        """#text-2, #cdata-rcdata-restrictions."""
+        name, foreign, grand = self.parents()
+        points = set() if self.path else {1}
+        if self.in_html() and ("head" not in self.seen or "body" in self.seen or not all_space(e.text)):
+            points.add(2)
+        raw = not foreign and name in elements.RAWISH
+        if e.text == "" or "\0" in e.text or isinstance(self.before, Text) or e.raw != raw:
+            points.add(6)
+        if name is not None and not foreign and whitespace_only(name, grand) and not all_space(e.text):
+            points.add(6)
+        if raw and ("\r" in e.text or not ends_there(name, e.text)):
+            points.add(7)
+        return points
+
+    def root_breaks(self, e):
+        """html, head and body come once, in their order, and nothing else beside them."""
+        root = e.name if not e.foreign and e.name in elements.ROOTS else None
+        points = set()
+        if not self.path and not (root == "html" and "doctype" in self.seen and "html" not in self.seen):
+            points.add(1)
+        if self.in_html():
+            in_turn = root == "head" and "head" not in self.seen \
+                or root == "body" and "head" in self.seen and "body" not in self.seen
+            if not in_turn:
+                points.add(2)
+        elif root and (self.path or root != "html"):
+            points.add(2)
+        return points
+
+    def html_breaks(self, e):
+        """#element-restrictions."""
+        if e.foreign or e.name in elements.ROOTS:
+            return set()
+        name, foreign, grand = self.parents()
+        holds = name is not None and not foreign and elements.NAME.match(e.name) and e.name not in elements.REFUSED \
+            and elements.may_stand(e.name, name, grand) and not elements.yields(name, e.name) \
+            and not (elements.closes_p(e.name) and open_p(self.path)) \
+            and not (e.name in elements.NESTED and (e.name, False) in self.path) \
+            and not (e.name in elements.HEADINGS and any(n in elements.HEADINGS and not f for n, f in self.path))
+        return set() if holds else {3}
+
+    def svg_breaks(self, e):
+        """#parsing-main-inforeign."""
+        name, foreign, grand = self.parents()
+        holds = e.foreign == (e.name == "svg" or foreign)
+        if e.foreign and not foreign and name is not None:
+            holds = holds and elements.may_stand("svg", name, grand)
+        if foreign:
+            holds = holds and e.name in elements.SVG and name not in ("title", "desc")
+        return set() if holds else {4}
+
+
+def ends_there(name, text):
+    """The text of such an element ends before its own end tag and not earlier."""
+    whole = text + "</" + name + ">"
+    return (script_end(whole) if name == "script" else raw_end(name, whole)) == len(text)
+
+
+def comment_breaks(text):
+    """#comments."""
+    points = {6} if "\0" in text else set()
+    if "\r" in text or text.startswith((">", "->")) or "-->" in text or "--!>" in text:
+        points.add(8)
+    return points
+
+
+def attribute_breaks(e):
+    """#attributes-2."""
+    points = {6} if any("\0" in value for _, value in e.attrs) else set()
+    names = [name for name, _ in e.attrs]
+    if len(names) > 256 or len(set(names)) < len(names) or any(n == "" or _BAD_ATTR.search(n) for n in names):
+        points.add(9)
+    return points

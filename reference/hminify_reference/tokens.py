@@ -20,7 +20,7 @@ def raw(name):
 @dataclass(frozen=True)
 class Token:
     """kind: Doctype, StartTag, EndTag, Slice, Points, Comment. `begin` is where the token
-    begins and `end` is behind it; `low`, `high` bound the text of Slice and Comment."""
+    begins and `end` is after it; `low`, `high` bound the text of Slice and Comment."""
     kind: str
     begin: int
     end: int

@@ -103,6 +103,8 @@ def input_of(words, files):
     names = [word for word in words if not word.startswith("-")]
     if not names or names[0] not in COMMANDS or names[2:3] != ["page"] or names[3:] not in ([], ["out", "cert"]) or "page" not in files:
         return []
+    if names[0] in WRITERS and not {"out", "cert"} <= files.keys():
+        return []
     if (len(names) == 5) != (names[0] in WITH_FILES) or names[1] not in ("html", "none", "table") or sum(map(len, files.values())) > MOST_BYTES:
         return []
     word = names[1] if names[1] != "table" or "table" in files else "html"

@@ -15,12 +15,13 @@ kept, and changed further, if command, status, rule (or `no N`) and class of len
 - `denied`: `check` says that trees differ only if they do for parse5, and goes on only if they don't;
 - `reference`: on small inputs status, printed bytes, OUT and CERT are those of the reference.
 
-What is found is made small, printed in the form of cases.txt (with the reference's answer, if it was asked), and written into the FOLDER of
---keep, where what is kept lies too. The last line counts runs, kept inputs and differences. Ends with 1 if there is a difference. The
-seed is printed first; the same seed, files and programs make the same run. Other words: --program COMMAND (`crates/hminify/out/hminify`);
---share P, how many of the small inputs the reference is asked about (0.1; each that is kept, too); --small N, the bytes of a small input
-(4000); --slack X, by which the bounds are multiplied (1); --pages N, how many pages are taken from the FOLDERs (300); --until KIND, which looks
-for differences of this kind alone and ends at the first one. Needs Linux, Python 3.9 or later, and parse5 (apt-get install node-parse5; NODE_PATH=/usr/share/nodejs is set if it isn't).
+What is found is made small, printed in the form of cases.txt (with the reference's answer, if it was asked), and written into the FOLDER
+of --keep, where what is kept lies too. The last line counts runs, kept inputs and differences. Ends with 1 if there is a difference. The
+seed is printed first; with --runs the same seed, files and programs make the same run. Other words: --program COMMAND
+(`crates/hminify/out/hminify`); --share P, how many of the small inputs the reference is asked about (0.1; each that is kept, too);
+--small N, the bytes of a small input (4000); --slack X, by which the bounds are multiplied (1); --pages N, how many pages are taken from
+the FOLDERs (300); --until KIND, which looks for differences of this kind alone and ends at the first one. Needs Linux, Python 3.9 or
+later, and parse5 (apt-get install node-parse5; NODE_PATH=/usr/share/nodejs is set if it isn't).
 """
 import argparse
 import base64
@@ -58,8 +59,9 @@ RULE = "(?:%s)" % "|".join(RULES)
 PRICE = r"(?:-|\d+)"
 # The whole of what is printed, by status.
 LINES = {
-    1: re.compile(r"no (?:0 certificate (?:too long|line \d+)|1 rules differ|2 output refused: %s at \d+|3 trees differ at event \d+|4 layers \d+, wanted \d+|"
-                  r"5 layer \d+: prices \d+, wanted \d+|6 layer \d+ state \d+: price %s above \d+|7 output \d+ bytes, first price %s)\n" % (RULE, PRICE, PRICE)),
+    1: re.compile(r"no (?:0 certificate (?:too long|line \d+)|1 rules differ|2 output refused: %s at \d+|3 trees differ at event \d+|"
+                  r"4 layers \d+, wanted \d+|5 layer \d+: prices \d+, wanted \d+|6 layer \d+ state \d+: price %s above \d+|"
+                  r"7 output \d+ bytes, first price %s)\n" % (RULE, PRICE, PRICE)),
     2: re.compile(r"usage: .*\n"),
     3: re.compile(r"page refused: (%s) at (\d+)\n" % RULE),
     4: re.compile(r"table refused: (?:TooLong|NotJson|NotObject|TooMany|(?:BadName|BadPoints|Lone) .*|TooManyFor [\w+]+)\n", re.S),
@@ -313,7 +315,8 @@ def examined(tools, it):
 def signature(it, told):
     """What an input is kept for: command, status, rule or `no N`, and class of length."""
     said = told.said.decode("utf-8", "replace")
-    rule = re.search(r"refused: (\w+)(?: event \d+)?( point \d+)?|^(no \d|length|yes)|^page:\d+:\d+: (\w+)", said) if told.status or it.command in WITH_FILES else None
+    form = r"refused: (\w+)(?: event \d+)?( point \d+)?|^(no \d|length|yes)|^page:\d+:\d+: (\w+)"
+    rule = re.search(form, said) if told.status or it.command in WITH_FILES else None
     words = "".join(part or "" for part in rule.groups()) if rule else ""
     return it.command, told.status, words, len(it.page).bit_length()
 
@@ -393,7 +396,8 @@ class Fuzzer:
         if self.found[it.command, kind] > MOST_OF_A_KIND:
             return
         self.tools.always = True
-        small = fuzz_shrink.shrunk(it, lambda other: kind in dict(examined(self.tools, other)[1]), lambda other: written_again(self.tools, other), SHRINKS)
+        small = fuzz_shrink.shrunk(it, lambda other: kind in dict(examined(self.tools, other)[1]),
+                                   lambda other: written_again(self.tools, other), SHRINKS)
         text = dict(examined(self.tools, small)[1]).get(kind, text)
         can_ask = small.command in self.tools.known and small.size() <= self.tools.small
         answer = reference_answer(self.tools, small) if can_ask else None

@@ -21,14 +21,20 @@ MOST_BYTES = 200_000
 NAMES = ("a abbr article b body br button caption col colgroup datalist dd div dl dt fieldset form g h1 h2 head hr html i iframe img input "
          "li link math meta nobr noscript ol optgroup option p param path pre rp rt ruby script search section select source span style "
          "svg table tbody td template textarea tfoot th thead title tr track ul video wbr x-y").encode().split()
-ATTRIBUTES = [b"id=a", b'class="a b"', b"title='\"'", b"checked", b'checked="checked"', b"type=text", b"a=", b'a="&amp"', b"a=&lt;", b'style=" "',
-              b"xlink:href=x", b"A=1", b"=x", b"a\"b=1", b"<=1", b'a="&notin"', b"a=b/", b"method=get", b'a="=&gt"', b'title="it\'s"', b'a="\n"', b"a=\xc3\xa9"]
-REFERENCES = [b"&amp;", b"&amp", b"&lt;", b"&lt", b"&GT", b"&not", b"&notin;", b"&#60;", b"&#38", b"&#x26;", b"&#13;", b"&#0;", b"&#x80;", b"&#xD800;",
+ATTRIBUTES = [b"id=a", b'class="a b"', b"title='\"'", b"checked", b'checked="checked"', b"type=text", b"a=", b'a="&amp"', b"a=&lt;",
+              b'style=" "',
+              b"xlink:href=x", b"A=1", b"=x", b"a\"b=1", b"<=1", b'a="&notin"', b"a=b/",
+              b"method=get", b'a="=&gt"', b'title="it\'s"', b'a="\n"', b"a=\xc3\xa9"]
+REFERENCES = [b"&amp;", b"&amp", b"&lt;", b"&lt", b"&GT", b"&not", b"&notin;", b"&#60;", b"&#38", b"&#x26;", b"&#13;", b"&#0;", b"&#x80;",
+              b"&#xD800;",
               b"&#x110000;", b"&ab;", b"&x;", b"&", b"&#", b"&#x", b"&NotEqualTilde;", b"&nbsp", b"&#10;", b"&#9", b"&acE;", b"&fjlig;", b"&times"]
-ODD = [b"\0", b"\r", b"\r\n", b"\xef\xbb\xbf", b"\xff", b"\xed\xa0\x80", b"\xf4\x90\x80\x80", b"\xc3\xa9", b"\xf0\x9f\x98\x80", b"]]>", b"<![CDATA[", b"<!--",
-       b"-->", b"--!>", b"<!", b"<?x>", b"</>", b"</", b"<", b">", b'"', b"'", b"=", b"/", b"/>", b" ", b"\n", b"\t", b"\f", b"</script", b"<!--<script>",
+ODD = [b"\0", b"\r", b"\r\n", b"\xef\xbb\xbf", b"\xff", b"\xed\xa0\x80", b"\xf4\x90\x80\x80", b"\xc3\xa9", b"\xf0\x9f\x98\x80", b"]]>",
+       b"<![CDATA[", b"<!--",
+       b"-->", b"--!>", b"<!", b"<?x>", b"</>", b"</", b"<", b">", b'"', b"'", b"=", b"/", b"/>", b" ", b"\n", b"\t", b"\f",
+       b"</script", b"<!--<script>",
        b"<!doctype html>", b'<!DOCTYPE html SYSTEM "about:legacy-compat">', b"\xcc\xb8", b"amp;", b";", b"#", b"x", b"</p>", b"</body>", b"</html>"]
-TEXTS = [b"a", b" ", b"\n", b"x y", b"a  b", b"\xc3\xa9", b"\xf0\x9f\x98\x80", b"=", b"'", b'"', b">", b"]]>", b"&amp;lt", b"<!--c-->", b"<?x>", b"</>", b"1;", b"\xcc\xb8"]
+TEXTS = [b"a", b" ", b"\n", b"x y", b"a  b", b"\xc3\xa9", b"\xf0\x9f\x98\x80", b"=", b"'", b'"', b">", b"]]>", b"&amp;lt",
+         b"<!--c-->", b"<?x>", b"</>", b"1;", b"\xcc\xb8"]
 TAG = re.compile(rb"<[^<>]*>")
 START = re.compile(rb"<\w[^<>]*>")
 REFERENCE = re.compile(rb"&[#\w]*;?")
@@ -114,8 +120,8 @@ def input_of(words, files):
 
 def from_folders(folders, most, dice):
     """Pages of the folders, at random and none of them large, each with the word `html`."""
-    paths = [os.path.join(top, name) for folder in folders for top, _, names in os.walk(folder) for name in names if re.search(r"\.html?$", name)]
-    paths = sorted(path for path in paths if os.path.isfile(path) and 0 < os.path.getsize(path) <= MOST_BYTES // 3)
+    paths = [os.path.join(top, name) for folder in folders for top, _, names in os.walk(folder) for name in names]
+    paths = sorted(path for path in paths if re.search(r"\.html?$", path) and os.path.isfile(path) and 0 < os.path.getsize(path) <= MOST_BYTES // 3)
     for path in dice.sample(paths, min(most, len(paths))):
         with open(path, "rb") as file:
             yield Input("minify", tuple(SPELLINGS[:3]), "html", None, file.read())
@@ -263,13 +269,15 @@ def page_changed(dice, data, other):
     return dice.choice(GENTLE if dice.random() < 0.75 else ROUGH)(dice, data, other)
 
 
+ENDS = [b"li", b"p", b"td", b"tr", b"dt", b"dd", b"option"]
+
 # Texts that are longer and mostly have the same tree.
 LONGER = [
     on_one(TAG, lambda dice, text: text[:-1] + dice.choice([b" ", b"\n", b"\t "]) + text[-1:]),
     on_one(re.compile(rb"[a-z]"), lambda dice, text: b"&#%d;" % text[0]),
     on_one(re.compile(rb"&\w+(?![\w;])"), lambda dice, text: text + b";"),
     on_one(re.compile(rb"=[\w-]+(?=[ >])"), lambda dice, text: b'="' + text[1:] + b'"'),
-    on_one(re.compile(rb"<(?=li|p|td|tr|dt|dd|option)"), lambda dice, text: b"</%s><" % dice.choice([b"li", b"p", b"td", b"tr", b"dt", b"dd", b"option"])),
+    on_one(re.compile(rb"<(?=(?:li|p|td|tr|dt|dd|option)\b)"), lambda dice, text: b"</%s><" % dice.choice(ENDS)),
     lambda dice, data, _: data.replace(b"<!doctype html>", b"<!doctype html><html>", 1),
     lambda dice, data, _: data + dice.choice([b"</body>", b"</html>", b"</body></html>"]),
 ]
@@ -291,8 +299,10 @@ def table_changed(dice, data, other):
     try:
         names = json.loads(data)
         key = dice.choice(sorted(names))
-        names[dice.choice(["&" + dice.choice(["a", "lt", "ab", "notin", "x1", "L"]) + dice.choice(["", ";"]), key[:-1], key.rstrip(";"), key + ";"])] = dice.choice(
-            [names[key], {"codepoints": [dice.choice([0, 9, 10, 13, 38, 60, 97, 0x338, 0xD800, 0x10FFFF, 0x110000])]}, {"codepoints": [97, 0x338]}, {}])
+        other_key = "&" + dice.choice(["a", "lt", "ab", "notin", "x1", "L"]) + dice.choice(["", ";"])
+        points = dice.choice([0, 9, 10, 13, 38, 60, 97, 0x338, 0xD800, 0x10FFFF, 0x110000])
+        values = [names[key], {"codepoints": [points]}, {"codepoints": [97, 0x338]}, {}]
+        names[dice.choice([other_key, key[:-1], key.rstrip(";"), key + ";"])] = dice.choice(values)
         if dice.random() < 0.3:
             del names[key]
         return json.dumps(names).encode()

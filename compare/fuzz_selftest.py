@@ -93,7 +93,8 @@ def clean(reference):
     """Whether nothing is found without a fault, though all was asked."""
     with tempfile.TemporaryDirectory(prefix="hminify-fuzz-") as keep:
         status, said = fuzzed(reference, "", None, CLEAN_RUNS, keep)
-    asked = all(re.search(r"[1-9]\d* " + what, said) for what in ("pairs of trees", "runs of the reference", "longer texts", r"check +0 yes", "inputs kept"))
+    wanted = ("pairs of trees", "runs of the reference", "longer texts", r"check +0 yes", "inputs kept")
+    asked = all(re.search(r"[1-9]\d* " + what, said) for what in wanted)
     right = status == 0 and asked and said.endswith(" 0 differences\n")
     print("no fault: %s" % ("nothing is found" if right else "wrong, it says\n" + said))
     return right
@@ -107,7 +108,8 @@ def finds(reference, fault, kind, most):
         cases = [name for name in os.listdir(keep) if name.startswith("found_")]
     right = status == 1 and found is not None and found[1] == kind and int(found[2]) <= most and len(cases) == 1
     runs = re.search(r"(\d+) runs, ", said)
-    print("%s: %s" % (fault, "found by `%s` in %s runs, with %s bytes, made of %s" % (found[1], runs[1], found[2], found[3]) if right else "wrong, it says\n" + said))
+    told = "found by `%s` in %s runs, with %s bytes, made of %s" % (found[1], runs[1], found[2], found[3]) if right else "wrong, it says\n" + said
+    print("%s: %s" % (fault, told), flush=True)
     return right
 
 

@@ -29,10 +29,9 @@ REFERENCES = [b"&amp;", b"&amp", b"&lt;", b"&lt", b"&GT", b"&not", b"&notin;", b
               b"&#xD800;",
               b"&#x110000;", b"&ab;", b"&x;", b"&", b"&#", b"&#x", b"&NotEqualTilde;", b"&nbsp", b"&#10;", b"&#9", b"&acE;", b"&fjlig;", b"&times"]
 ODD = [b"\0", b"\r", b"\r\n", b"\xef\xbb\xbf", b"\xff", b"\xed\xa0\x80", b"\xf4\x90\x80\x80", b"\xc3\xa9", b"\xf0\x9f\x98\x80", b"]]>",
-       b"<![CDATA[", b"<!--",
-       b"-->", b"--!>", b"<!", b"<?x>", b"</>", b"</", b"<", b">", b'"', b"'", b"=", b"/", b"/>", b" ", b"\n", b"\t", b"\f",
-       b"</script", b"<!--<script>",
-       b"<!doctype html>", b'<!DOCTYPE html SYSTEM "about:legacy-compat">', b"\xcc\xb8", b"amp;", b";", b"#", b"x", b"</p>", b"</body>", b"</html>"]
+       b"<![CDATA[", b"<!--", b"-->", b"--!>", b"<!", b"<?x>", b"</>", b"</", b"<", b">", b'"', b"'", b"=", b"/", b"/>", b" ", b"\n", b"\t",
+       b"\f", b"</script", b"<!--<script>", b"<!doctype html>", b'<!DOCTYPE html SYSTEM "about:legacy-compat">', b"\xcc\xb8", b"amp;", b";",
+       b"#", b"x", b"</p>", b"</body>", b"</html>"]
 TEXTS = [b"a", b" ", b"\n", b"x y", b"a  b", b"\xc3\xa9", b"\xf0\x9f\x98\x80", b"=", b"'", b'"', b">", b"]]>", b"&amp;lt",
          b"<!--c-->", b"<?x>", b"</>", b"1;", b"\xcc\xb8"]
 TAG = re.compile(rb"<[^<>]*>")
@@ -286,6 +285,8 @@ LONGER = [
 # Changes of trees as JSON, of tables and of certificates.
 
 def tree_changed(dice, data, other):
+    if dice.random() < 0.3:
+        return walks.written(dice, walks.page(dice))
     try:
         walk = json.loads(data)
         if not isinstance(walk, list) or dice.random() < 0.1:
@@ -355,7 +356,8 @@ def with_command(dice, it):
         return it
     command = dice.choice(["minify", "minify", "minify", "tree", "json", "explain", "fragment"])
     flags = it.flags if command != "fragment" or "--omit" in it.flags else it.flags + ("--omit",)
-    return dataclasses.replace(it, command=command, flags=flags, out=None, cert=None, seed=None)
+    page = re.sub(rb"(?i)^\s*<!doctype html>|</?(?:html|head|body)\b[^>]*>", b"", it.page) if command == "fragment" else it.page
+    return dataclasses.replace(it, command=command, flags=flags, page=page, out=None, cert=None, seed=None)
 
 
 def as_of_browsers(dice, it):

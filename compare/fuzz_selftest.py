@@ -5,7 +5,7 @@ Plants a fault in the reference (the command REFERENCE, `python3 reference/hmini
 and the reference as it is beside it. Each fault has to be found by the question that is named for it, and a small case with it
 has to be left. Without a fault nothing may be found, and each sort of comparison has to have been made. The faults:
 
-- `reference`, told by `tree`: `minify` writes one space for the first two spaces of OUT, so the tree is another one;
+- `reference`, told by `tree`: `minify` writes a space for the first line feed or two spaces of OUT, so the tree is another one;
 - told by `length`: `check` says yes to texts that are too long (`no 7`);
 - told by `status`: the program is ended by a signal on a page with a comment;
 - told by `files`: a page that is refused leaves OUT empty;
@@ -52,7 +52,7 @@ def with_fault(fault, words, status, said):
         with open("out", "rb+") as file:
             text = file.read()
             file.seek(0)
-            file.write(text.replace(b"  ", b" ", 1))
+            file.write(re.sub(rb"\n|  ", b" ", text, count=1))
             file.truncate()
             said = b"length %d\n" % file.tell()
     elif fault == "longer" and said.startswith(b"no 7 "):

@@ -1,4 +1,4 @@
-"""Tree construction (#tree-construction)."""
+"""Tree construction: what each token does to the walk."""
 from . import elements
 from . import tokens
 from .text import Refused, is_space, read_text

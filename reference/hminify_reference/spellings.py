@@ -1,4 +1,4 @@
-"""Whether a text is a spelling of a walk (#writing). All is read from the front."""
+"""Whether a text is a spelling of a walk. All is read from the front."""
 from . import elements
 from .omission import omit_end, omit_start
 from .references import best_number, ref

@@ -1,4 +1,4 @@
-"""The next token of the rest of a text (#tokenization). Positions count code points of the text."""
+"""The next token of the rest of a text (#data-state and those after it). Positions count code points of the text."""
 import re
 from dataclasses import dataclass
 
@@ -181,7 +181,7 @@ _RAW_ENDS = {n: re.compile("</" + n + r"(?=[\t\n\f\r />])", re.I | re.A)
 
 
 def raw_end(name, s, i=0):
-    """The place at or after i where the text of such an element ends, or None (#rawtext-less-than-sign-state)."""
+    """The place at or after i where the text of such an element ends, or None (#rawtext-end-tag-name-state)."""
     m = _RAW_ENDS[name].search(s, i)
     return None if m is None else m.start()
 
@@ -199,7 +199,7 @@ def script_marks(s, i=0):
 
 
 def script_end(s, i=0):
-    """The first `</script` that ends a script: one that isn't double escaped (#script-data-double-escaped-state)."""
+    """The first `</script` that ends a script: one that isn't double escaped (#script-data-double-escape-end-state)."""
     mood = "plain"
     for at, mark in script_marks(s, i):
         if mark == "</script" and mood != "double":
